@@ -1,0 +1,134 @@
+-- Laws of byte runs, for the proofs of the functions and for the theorems.
+use Prim.Native.Nat.{ℕ, suc, _+_, _≤_, _<_}
+use mathlib.Core.Path.{_≡_, refl, sym, ap, _∙_}
+use mathlib.Core.List.{List, [], _∷_, _++_}
+use mathlib.Core.Bool.{Bool, true, false, _&&_, and-true, and-false, and-assoc, false≢true}
+use mathlib.Core.Logic.{_⊎_, inl, inr}
+use native.Mathlib.Numerals.{add-one}
+use native.Mathlib.Nat.{add-zero, add-suc, suc-add}
+use lib.ListN.{length, getD, drop, set, drop-of-length-le}
+use native.Mathlib.Omega.{arith}
+use lib.Dec.{eqb, ltb}
+use lib.Seq.{drop-cons, sets}
+use borrow.Author.Tests.{eq-eqb, ne-eqb, eqb-true, ltb-true, ltb-false}
+use Rattle.forms.specs.Bytes.{bytes2, all, contains, leads, same}
+use Rattle.forms.specs.Fields.{framed}
+
+-- a loop that tests each element: past the end, at one that passes, at one that fails
+pub all-end : (p : ℕ → Bool) (s : List ℕ) (i : ℕ) → length s ≤ i → all p (drop i s) ≡ true
+unfolding all
+all-end p s i h = rw (drop-of-length-le s h)
+
+pub all-step : (p : ℕ → Bool) (s : List ℕ) (i : ℕ) → i < length s → p (getD s i 0) ≡ true → all p (drop (i + 1) s) ≡ all p (drop i s)
+unfolding all
+all-step p s i h e = rw (add-one, drop-cons s i 0 h, e)
+
+pub all-stop : (p : ℕ → Bool) (s : List ℕ) (i : ℕ) → i < length s → p (getD s i 0) ≡ false → all p (drop i s) ≡ false
+unfolding all
+all-stop p s i h e = rw (drop-cons s i 0 h, e)
+
+-- a loop that compares each element with that of d: at the end of either, at one that differs, at one that agrees
+pub leads-end : (a d : List ℕ) (i : ℕ) → length a ≤ i → leads (drop i a) (drop i d) ≡ true
+unfolding leads
+leads-end a d i h = rw (drop-of-length-le a h)
+
+pub leads-short : (a d : List ℕ) (i : ℕ) → i < length a → length d ≤ i → leads (drop i a) (drop i d) ≡ false
+unfolding leads
+leads-short a d i h l = rw (drop-cons a i 0 h, drop-of-length-le d l)
+
+module _ (a d : List ℕ) (i : ℕ) (h : i < length a) (l : i < length d) where
+  pub leads-stop : (getD a i 0 ≡ getD d i 0 → ⊥) → leads (drop i a) (drop i d) ≡ false
+  unfolding leads
+  leads-stop e = rw (drop-cons a i 0 h, drop-cons d i 0 l, ne-eqb _ _ e)
+
+  pub leads-step : getD a i 0 ≡ getD d i 0 → leads (drop (i + 1) a) (drop (i + 1) d) ≡ leads (drop i a) (drop i d)
+  unfolding leads
+  leads-step e = rw (add-one i, drop-cons a i 0 h, drop-cons d i 0 l, eq-eqb _ _ e)
+
+-- a loop that stores the elements of s from place a on: what is left to store, at the start, after a turn, at the end
+pub sets-start : (d s : List ℕ) (a : ℕ) → sets d (a + 0) (drop 0 s) ≡ sets d a s
+sets-start d s a = rw add-zero
+
+pub sets-step : (d s : List ℕ) (a i : ℕ) → i < length s → sets (set d (a + i) (getD s i 0)) (a + (i + 1)) (drop (i + 1) s) ≡ sets d (a + i) (drop i s)
+sets-step d s a i h = rw (drop-cons s i 0 h, add-one i, add-suc a i)
+
+pub sets-end : (d s : List ℕ) (a i : ℕ) → length s ≤ i → sets d a (drop i s) ≡ d
+sets-end d s a i h = rw (drop-of-length-le s h)
+
+-- two runs of stores, one after the other, are one
+pub sets-more : (a b d : List ℕ) (i : ℕ) → sets (sets d i a) (i + length a) b ≡ sets d i (a ++ b)
+sets-more [] b d i = rw add-zero
+sets-more (x ∷ a) b d i = rw (add-suc, ← suc-add i (length a)) (sets-more a b (set d i x) (suc i))
+
+pub sets-then : (a b d : List ℕ) (i n : ℕ) → n ≡ i + length a → sets (sets d i a) n b ≡ sets d i (a ++ b)
+sets-then a b d i n e = rw e (sets-more a b d i)
+
+pub below-or-past : (i n : ℕ) → (i < n) ⊎ (n ≤ i)
+below-or-past i n = go (ltb i n) refl
+  where
+    go : (b : Bool) → ltb i n ≡ b → (i < n) ⊎ (n ≤ i)
+    go true e = inl (ltb-true i n e)
+    go false e = inr (ltb-false i n e)
+
+pub and-left : (a b : Bool) → (a && b) ≡ true → a ≡ true
+and-left true b h = refl
+and-left false b h = h
+
+pub and-right : (a b : Bool) → (a && b) ≡ true → b ≡ true
+and-right true b h = h
+and-right false b h = let z : _≡_ {A = ℕ} 0 1 = cc in absurd (omega arith)
+
+-- a loop that looks for x: past the end, at it, at another
+pub contains-end : (x : ℕ) (t : List ℕ) (i : ℕ) → length t ≤ i → contains x (drop i t) ≡ false
+unfolding contains
+contains-end x t i h = rw (drop-of-length-le t h)
+
+pub contains-stop : (x : ℕ) (t : List ℕ) (i : ℕ) → i < length t → getD t i 0 ≡ x → contains x (drop i t) ≡ true
+unfolding contains
+contains-stop x t i h e = rw (drop-cons t i 0 h, eq-eqb _ _ e)
+
+pub contains-step : (x : ℕ) (t : List ℕ) (i : ℕ) → i < length t → (getD t i 0 ≡ x → ⊥) → contains x (drop (i + 1) t) ≡ contains x (drop i t)
+unfolding contains
+contains-step x t i h e = rw (add-one i, drop-cons t i 0 h, ne-eqb _ _ e)
+
+-- ---- runs that lead, and runs that are the same
+
+-- a run made of two leads as the two do, one after the other
+pub leads-both : (a b s : List ℕ) → leads (a ++ b) s ≡ (leads a s && leads b (drop (length a) s))
+unfolding leads
+leads-both [] b s = refl
+leads-both (x ∷ a) b [] = refl
+leads-both (x ∷ a) b (y ∷ s) = rw (leads-both a b s, and-assoc)
+
+pub same-self : (a : List ℕ) → same a a ≡ true
+unfolding same
+same-self [] = refl
+same-self (x ∷ a) = rw (eq-eqb x x refl) (same-self a)
+
+pub same-true : (a b : List ℕ) → same a b ≡ true → a ≡ b
+unfolding same
+same-true [] [] h = refl
+same-true [] (y ∷ b) h = absurd (false≢true h)
+same-true (x ∷ a) [] h = absurd (false≢true h)
+same-true (x ∷ a) (y ∷ b) h = rw (eqb-true x y (and-left (eqb x y) (same a b) h), same-true a b (and-right (eqb x y) (same a b) h))
+
+-- with its own rest behind it, a run is the same as s where it leads s
+pub same-rest : (a s : List ℕ) → same (a ++ drop (length a) s) s ≡ leads a s
+unfolding same leads
+same-rest [] s = same-self s
+same-rest (x ∷ a) [] = refl
+same-rest (x ∷ a) (y ∷ s) = rw (same-rest a s)
+
+-- bytes are a frame and a body where they begin with their own length and version 1, and the body is the same
+pub framed-same : (b s : List ℕ) → same (framed b) s ≡ (leads (bytes2 (length s) ++ (1 ∷ [])) s && same b (drop 3 s))
+unfolding same leads
+framed-same b [] = refl
+framed-same b (x ∷ []) = rw (and-false, and-false)
+framed-same b (x ∷ y ∷ []) = simp and-false
+framed-same b (x ∷ y ∷ z ∷ s) = go (same b s) refl
+  where
+    go : (f : Bool) → same b s ≡ f → same (framed b) (x ∷ y ∷ z ∷ s) ≡ (leads (bytes2 (length (x ∷ y ∷ z ∷ s)) ++ (1 ∷ [])) (x ∷ y ∷ z ∷ s) && same b s)
+    go true e =
+        let n : 3 + length s ≡ length (x ∷ y ∷ z ∷ s) = omega arith in
+        rw (e, same-true b s e, n) (simp and-true)
+    go false e = simp (e, and-false)

@@ -1,0 +1,5 @@
+pub mod ByteLaws
+pub mod ItemLaws
+pub mod WriteLaws
+pub mod ProfileLaws
+pub mod Walks

@@ -1,0 +1,39 @@
+-- `forms::bytes::has` meets its contract.
+use borrow.Author.Needs.{needs}
+use Prim.Native.Nat.{_≤_, _+_, _*_, _-_}
+use mathlib.Core.Path.{_≡_, sym, _∙_}
+use lib.ListN.{length, drop}
+use Rattle.forms.specs.Bytes.{contains}
+use Rattle.forms.proofs.ByteLaws.{contains-end, contains-stop, contains-step}
+use Rattle.forms.proofs.bytes.has.Statement.{statement}
+use Rattle.forms.proofs.bytes.has.Tie as tie
+
+abbrev Inv-loop : tie.InvT-loop
+Inv-loop t x i₀ i = (i ≤ length t) × (contains x (drop i t) ≡ contains x t)
+
+abbrev μ-loop : tie.MeasureT-loop
+μ-loop t x i₀ i = length t - i
+
+returns : tie.Need-returns Inv-loop μ-loop
+returns c = sym (contains-stop _ _ _ (c .before .before .before .loop-test .taken) (sym (c .before .size .ensures .0) ∙ c .if1 .taken)) ∙ c .before .before .before .before .loop .inv .1
+
+loop-again : tie.Need-loop-again Inv-loop μ-loop
+loop-again c = (search needs, contains-step _ _ _ (c .before .before .before .loop-test .taken) (λ e. c .if1 .left (c .before .size .ensures .0 ∙ e)) ∙ c .before .before .before .before .loop .inv .1)
+
+returns-2 : tie.Need-returns-2 Inv-loop μ-loop
+returns-2 c = sym (contains-end _ _ _ (c .loop-test .left)) ∙ c .before .loop .inv .1
+
+pub has-spec : {M : Type 1} → statement M
+has-spec =
+    tie.close
+    (tie.spec
+    Inv-loop
+    μ-loop
+    (λ c. search needs)
+    (λ c. search needs)
+    (λ c κs. search needs)
+    returns
+    (λ c. search needs)
+    (λ c. search needs)
+    loop-again
+    returns-2)

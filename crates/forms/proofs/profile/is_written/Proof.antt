@@ -1,0 +1,11 @@
+use borrow.Author.Needs.{needs}
+use Rattle.forms.proofs.profile.is_written.Statement.{statement}
+use Rattle.forms.proofs.profile.is_written.Tie as tie
+
+pub is-written-spec : {M : Type 1} → statement M
+is-written-spec =
+    tie.close
+    (tie.spec
+    (λ c κs. search needs) (λ c. search needs) (λ c. search needs) (λ c. search needs) (λ c κs. search needs) (λ c κs. search needs)
+    (λ c κs. search needs) (λ c κs. search needs) (λ c κs. search needs) (λ c κs. search needs) (λ c κs. search needs) (λ c κs. search needs)
+    (λ c. cc))

@@ -1,0 +1,12 @@
+use Rattle.forms.specs.Profile.{viewAt}
+use borrow.Author.Needs.{needs}
+use Rattle.forms.proofs.profile.view_at.Statement.{statement}
+use Rattle.forms.proofs.profile.view_at.Tie as tie
+
+pub view-at-spec : {M : Type 1} → statement M
+unfolding viewAt
+view-at-spec =
+    tie.close
+    (tie.spec
+    (λ c κs. search needs) (λ c κs. search needs) (λ c κs. search needs) (λ c κs. search needs) (λ c κs. search needs) (λ c κs. search needs)
+    (λ c κs. search needs) (λ c. search needs) (λ c. (cc, search needs)))

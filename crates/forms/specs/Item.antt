@@ -1,0 +1,158 @@
+-- Document 01, Forms: items. `formOf` is its table of kinds. Reading has no rules of its own: bytes read as the item whose written form they are.
+use Prim.Native.Nat.{ℕ, zero, suc, _+_, _*_}
+use mathlib.Core.List.{List, [], _∷_, _++_}
+use mathlib.Core.Bool.{Bool, true, _&&_, cond}
+use lib.ListN.{length, getD, drop}
+use lib.Dec.{ltb, leb, eqb}
+use Rattle.forms.specs.Bytes.{bytes2, bytes4, bytes6, be2, be4, be6, all, same}
+use Rattle.forms.specs.Units.{clockEnd}
+use Rattle.forms.specs.Fields.{Field, nature, service, forwarded, digitCount, isDigit, digit, cause, leg, entryCount, period, bytesIn, allRight, framed}
+use Rattle.forms.specs.declared.item.Leg.{Leg}
+use Rattle.forms.specs.declared.item.Leg.the-variants.{One, Two}
+use Rattle.forms.specs.declared.item.Body.{Body}
+use Rattle.forms.specs.declared.item.Body.the-variants as B
+use Rattle.forms.specs.declared.item.Rest.{Rest}
+use Rattle.forms.specs.declared.item.Rest.the-variants.{Nothing, Digits, Entries}
+use Rattle.forms.specs.declared.item.Fixed.{Fixed}
+use Rattle.forms.specs.declared.item.Item.{Item}
+use Rattle.forms.specs.declared.item.Entry.{Entry}
+use Rattle.forms.specs.declared.item.ReadItem.{ReadItem}
+use Rattle.forms.specs.declared.item.ReadItem.the-variants as R
+use Rattle.forms.specs.declared.item.ReadEntry.{ReadEntry}
+use Rattle.forms.specs.declared.item.ReadEntry.the-variants as E
+
+-- ---- the table of kinds
+
+-- a row: the kind's number, its fields, and what follows them
+pub record Form : Type 0 where
+  pub kind : ℕ
+  pub fields : List Field
+  pub rest : Rest
+
+abbrev pub form : ℕ → List Field → Rest → Form
+form kind fields rest = record { kind = kind; fields = fields; rest = rest }
+
+abbrev pub formOf : Body → Form
+formOf (B.Setup n s f c) = form 1 (nature n ∷ service s ∷ forwarded f ∷ digitCount c ∷ []) (Digits c)
+formOf (B.RouteFailure c) = form 2 (cause c ∷ []) Nothing
+formOf (B.Busy c) = form 3 (cause c ∷ []) Nothing
+formOf B.NoAnswer = form 4 [] Nothing
+formOf B.Seized = form 5 [] Nothing
+formOf B.Answer = form 6 [] Nothing
+formOf (B.MidCall d) = form 7 (digit d ∷ []) Nothing
+formOf B.Moved = form 8 [] Nothing
+formOf (B.Clear l c) = form 9 (leg l ∷ cause c ∷ []) Nothing
+formOf (B.PeriodOver l) = form 10 (leg l ∷ []) Nothing
+formOf (B.RequestReport c) = form 20 (entryCount c ∷ []) (Entries c)
+formOf B.Continue = form 21 [] Nothing
+formOf (B.Connect n c) = form 22 (nature n ∷ digitCount c ∷ []) (Digits c)
+formOf B.Release = form 23 [] Nothing
+formOf (B.ApplyCharging l p) = form 24 (leg l ∷ period p ∷ []) Nothing
+formOf B.ActivityTest = form 25 [] Nothing
+formOf B.Abort = form 26 [] Nothing
+
+-- what follows: nothing; "one byte per digit 0..14"; or, "each: point, leg, mode, timer (2 bytes), of any value", five bytes an entry
+abbrev pub restRight : Rest → List ℕ → Bool
+restRight Nothing t = eqb (length t) 0
+restRight (Digits count) t = eqb (length t) count && all isDigit t
+restRight (Entries count) t = eqb (length t) (count * 5)
+
+-- ---- an item, t its digits or entries, as bytes: "length, version, kind (1 byte), call (4), time (6), body"
+
+abbrev pub fieldBytes : Body → List ℕ
+fieldBytes b = bytesIn (formOf b .fields)
+
+unfoldable pub itemBytes : Item → List ℕ → List ℕ
+itemBytes i t = framed (formOf (i .body) .kind ∷ (bytes4 (i .call) ++ (bytes6 (i .time .0) ++ (fieldBytes (i .body) ++ t))))
+
+-- every field is in its range, and t is what follows
+unfoldable pub itemRight : Item → List ℕ → Bool
+itemRight i t = (allRight (formOf (i .body) .fields) && restRight (formOf (i .body) .rest) t) && ltb (i .time .0) clockEnd
+
+-- where the digits or the entries begin, and these
+unfoldable pub restAt : Body → ℕ
+restAt b = 14 + length (fieldBytes b)
+
+-- ---- reading
+
+abbrev pub legOf : Bool → Leg
+legOf two = cond two Two One
+
+-- the first body of the list that is of the kind n, an Abort where none is: its own kind, 26, then tells them apart
+abbrev pub choose : ℕ → List Body → Body
+choose n [] = B.Abort
+choose n (b ∷ bs) = cond (eqb n (formOf b .kind)) b (choose n bs)
+
+-- the body of the kind n whose values the bytes are: b0 to b3 are its first, l the leg that b0 stands for, p the number from b1 on
+unfoldable pub bodyFrom : ℕ → ℕ → ℕ → ℕ → ℕ → Leg → ℕ → Body
+bodyFrom n b0 b1 b2 b3 l p =
+    choose n
+    (B.Setup b0 b1 (eqb b2 1) b3
+    ∷ B.RouteFailure b0
+    ∷ B.Busy b0
+    ∷ B.NoAnswer
+    ∷ B.Seized
+    ∷ B.Answer
+    ∷ B.MidCall b0
+    ∷ B.Moved
+    ∷ B.Clear l b1
+    ∷ B.PeriodOver l
+    ∷ B.RequestReport b0
+    ∷ B.Continue
+    ∷ B.Connect b0 b1
+    ∷ B.Release
+    ∷ B.ApplyCharging l (record { 0 = p })
+    ∷ B.ActivityTest
+    ∷ [])
+
+unfoldable pub bodyOf : ℕ → List ℕ → Body
+bodyOf n b = bodyFrom n (getD b 0 0) (getD b 1 0) (getD b 2 0) (getD b 3 0) (legOf (eqb (getD b 0 0) 2)) (be4 (drop 1 b))
+
+-- the values at their places, whatever the bytes are
+unfoldable pub itemOf : List ℕ → Item
+itemOf s = record { call = be4 (drop 4 s); time = record { 0 = be6 (drop 8 s) }; body = bodyOf (getD s 3 0) (drop 14 s) }
+
+-- the digits or the entries of the body b, in the item's bytes
+abbrev pub restOf : Body → List ℕ → List ℕ
+restOf b s = drop (restAt b) s
+
+-- s is the written form of the item i with what follows in s, and i is in range
+unfoldable pub isItem : Item → List ℕ → Bool
+isItem i s = same (itemBytes i (restOf (i .body) s)) s && itemRight i (restOf (i .body) s)
+
+-- what the bytes say: the item that is written so, and the place where its digits or entries begin; else refusal 1
+unfoldable pub readItem : List ℕ → ReadItem
+readItem s = let i = itemOf s in cond (isItem i s) (R.Item i (restAt (i .body))) (R.Refused 1)
+
+-- the same for the bytes from place a on
+abbrev pub placed : ℕ → ReadItem → ReadItem
+placed a (R.Item i n) = R.Item i (a + n)
+placed a (R.Refused n) = R.Refused n
+
+unfoldable pub readItemAt : List ℕ → ℕ → ReadItem
+readItemAt s a = placed a (readItem (drop a s))
+
+-- ---- the entries of a Request report: "point, leg, mode, timer (2 bytes)"
+
+unfoldable pub entryOf : List ℕ → Entry
+entryOf e = record { point = getD e 0 0; leg = getD e 1 0; mode = getD e 2 0; timer = record { 0 = be2 (drop 3 e) } }
+
+-- the entry at place a, and the place after it; the end where no whole entry is left
+unfoldable pub readEntry : List ℕ → ℕ → ReadEntry
+readEntry s a = cond (leb 5 (length (drop a s))) (E.Entry (entryOf (drop a s)) (a + 5)) E.End
+
+-- ---- what the code keeps of a row: the fields' bytes in five places; and the 14 bytes before them in a form of n bytes
+
+abbrev pub headOf : ℕ → ℕ → ℕ → ℕ → List ℕ
+headOf n kind call time = bytes2 n ++ (1 ∷ kind ∷ (bytes4 call ++ bytes6 time))
+
+abbrev pub pad : ℕ → List ℕ → List ℕ
+pad zero l = []
+pad (suc n) [] = 0 ∷ pad n []
+pad (suc n) (x ∷ l) = x ∷ pad n l
+
+abbrev pub fixed : ℕ → List ℕ → Bool → Rest → Fixed
+fixed kind bytes right rest = record { kind = kind; len = length bytes; bytes = pad 5 bytes; right = right; rest = rest }
+
+abbrev pub fixedOf : Form → Fixed
+fixedOf f = fixed (f .kind) (bytesIn (f .fields)) (allRight (f .fields)) (f .rest)

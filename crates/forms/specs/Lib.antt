@@ -1,0 +1,6 @@
+pub mod Bytes
+pub mod Units
+pub mod Fields
+pub mod Item
+pub mod Write
+pub mod Profile

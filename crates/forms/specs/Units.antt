@@ -1,0 +1,40 @@
+-- Document 01, Units: tenths of a second and whole seconds, each with its ceiling, and the one way across.
+use Prim.Native.Nat.{ℕ, _*_}
+use mathlib.Core.Bool.{Bool, cond}
+use lib.Dec.{leb}
+use Rattle.forms.specs.Bytes.{within}
+use Rattle.forms.specs.declared.units.Tenths.{Tenths}
+use Rattle.forms.specs.declared.units.Seconds.{Seconds}
+use Rattle.forms.specs.declared.units.Period.{Period}
+use Rattle.forms.specs.declared.units.Period.the-variants as P
+use Rattle.forms.specs.declared.units.Timer.{Timer}
+use Rattle.forms.specs.declared.units.Timer.the-variants as T
+
+-- "tenths 864000 for a period, seconds 2047 for a timer"
+abbrev pub longestPeriod : ℕ
+longestPeriod = 864000
+
+abbrev pub longestTimer : ℕ
+longestTimer = 2047
+
+-- a clock reading is six bytes long: below 2^48
+abbrev pub clockEnd : ℕ
+clockEnd = 281474976710656
+
+-- a charged period (maxCallPeriodDuration)
+abbrev pub isPeriod : ℕ → Bool
+isPeriod = within 1 longestPeriod
+
+abbrev pub periodOf : ℕ → Period
+periodOf n = cond (isPeriod n) (P.Of (record { 0 = n })) (P.Refused 1)
+
+-- a no-answer timer (TNRy), 0 for none
+abbrev pub isTimer : ℕ → Bool
+isTimer n = leb n longestTimer
+
+abbrev pub timerOf : ℕ → Timer
+timerOf n = cond (isTimer n) (T.Of (record { 0 = n })) (T.Refused 11)
+
+-- "the only way across is seconds × 10 = tenths"
+abbrev pub tenthsOf : Seconds → Tenths
+tenthsOf s = record { 0 = s .0 * 10 }

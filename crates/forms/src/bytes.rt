@@ -1,0 +1,129 @@
+// Lent byte runs: reading never leaves them, whatever the place. Numbers are big-endian (document 01, Forms).
+ghost use mathlib.Core.Path.{_≡_};
+ghost use Prim.Native.Nat.{_+_, _<_, _≤_};
+ghost use lib.ListN.{length, getD, drop};
+ghost use lib.Seq.{sets};
+ghost use Rattle.forms.specs.Bytes.{be2, be4, be6, part, within, all, contains, leads};
+
+// The byte at `i`, 0 past the end.
+pub fn at(s: &[u8], i: usize) -> u8
+    ensures { λ r. ⌜ r ≡ getD (now (s .entry)) i 0 ⌝ }
+{
+    if i < s.len() { s[i] } else { 0 }
+}
+
+// What follows the first `a` bytes, nothing where there are fewer.
+pub fn from(s: &[u8], a: usize) -> &[u8]
+    ensures { λ r. ⌜ now r ≡ drop a (now (s .entry)) ⌝ }
+{
+    if a <= s.len() { &s[a..] } else { &s[..0] }
+}
+
+// The n bytes from place a on, fewer where there are fewer.
+pub fn part_of(s: &[u8], a: usize, n: usize) -> &[u8]
+    ensures { λ r. ⌜ now r ≡ part (now (s .entry)) a n ⌝ }
+{
+    let t = from(s, a);
+    if n <= t.len() { &t[..n] } else { t }
+}
+
+pub(crate) fn wide(x: u8) -> u64
+    ensures { λ r. ⌜ (r ≡ x) × (r < 256) ⌝ }
+{
+    x as u64
+}
+
+pub(crate) fn size(n: u8) -> usize
+    ensures { λ r. ⌜ (r ≡ n) × (r < 256) ⌝ }
+{
+    n as usize
+}
+
+pub(crate) fn widen(x: u32) -> u64
+    ensures { λ r. ⌜ (r ≡ x) × (r < 4294967296) ⌝ }
+{
+    x as u64
+}
+
+// The numbers that the first 2, 4 and 6 bytes are.
+pub(crate) fn be16(s: &[u8]) -> u64
+    ensures { λ r. ⌜ (r ≡ be2 (now (s .entry))) × (r < 65536) ⌝ }
+{
+    wide(at(s, 0)) * 256 + wide(at(s, 1))
+}
+
+pub(crate) fn be32(s: &[u8]) -> u32
+    ensures { λ r. ⌜ r ≡ be4 (now (s .entry)) ⌝ }
+{
+    (be16(s) * 65536 + be16(from(s, 2))) as u32
+}
+
+pub(crate) fn be48(s: &[u8]) -> u64
+    ensures { λ r. ⌜ r ≡ be6 (now (s .entry)) ⌝ }
+{
+    be16(s) * 4294967296 + widen(be32(from(s, 2)))
+}
+
+pub(crate) fn is_within(n: u8, low: u8, high: u8) -> bool
+    ensures { λ r. ⌜ r ≡ within low high n ⌝ }
+{
+    (low <= n) & (n <= high)
+}
+
+// Each byte is in low..high.
+pub(crate) fn all_within(s: &[u8], low: u8, high: u8) -> bool
+    ensures { λ r. ⌜ r ≡ all (within low high) (now (s .entry)) ⌝ }
+{
+    let mut i = 0;
+    while i < s.len() {
+        if is_within(s[i], low, high) {
+            i += 1;
+        } else {
+            return false;
+        }
+    }
+    true
+}
+
+// Some byte is x.
+pub fn has(t: &[u8], x: usize) -> bool
+    ensures { λ r. ⌜ r ≡ contains x (now (t .entry)) ⌝ }
+{
+    let mut i = 0;
+    while i < t.len() {
+        if size(t[i]) == x {
+            return true;
+        }
+        i += 1;
+    }
+    false
+}
+
+// The bytes of `a` are the leading bytes of `d`.
+pub fn leading(a: &[u8], d: &[u8]) -> bool
+    ensures { λ r. ⌜ r ≡ leads (now (a .entry)) (now (d .entry)) ⌝ }
+{
+    let mut i = 0;
+    while i < a.len() {
+        if d.len() <= i {
+            return false;
+        }
+        if a[i] != d[i] {
+            return false;
+        }
+        i += 1;
+    }
+    true
+}
+
+// Stores the bytes of `s` in `d`, from place `at` on.
+pub(crate) fn copy_in(d: &mut [u8], at: usize, s: &[u8])
+    requires { ⌜ at + length (now s) ≤ length (now d) ⌝ }
+    ensures { λ _. ⌜ now (d .exit) ≡ sets (now (d .entry)) at (now (s .entry)) ⌝ }
+{
+    let mut i = 0;
+    while i < s.len() {
+        d[at + i] = s[i];
+        i += 1;
+    }
+}

@@ -1,0 +1,411 @@
+// Items: the table of kinds, and reading (document 01, Forms). Bytes read as the item whose written form they are.
+ghost use mathlib.Core.Path.{_≡_};
+ghost use mathlib.Core.List.{[], _∷_};
+ghost use mathlib.Core.Bool.{true, _&&_};
+ghost use Prim.Native.Nat.{_+_, _*_, _≤_};
+ghost use lib.ListN.{length, take, drop};
+ghost use lib.Dec.{ltb};
+ghost use Rattle.forms.specs.Bytes.{bytes4, leads};
+ghost use Rattle.forms.specs.Units.{clockEnd};
+ghost use Rattle.forms.specs.Fields.{legNumber};
+ghost use Rattle.forms.specs.Item.{formOf, restRight, legOf, bodyFrom, itemOf, readItem, readItemAt, entryOf, readEntry, headOf, fixed, fixedOf};
+use crate::bytes::all_within;
+use crate::bytes::at;
+use crate::bytes::be16;
+use crate::bytes::be32;
+use crate::bytes::be48;
+use crate::bytes::from;
+use crate::bytes::is_within;
+use crate::bytes::leading;
+use crate::bytes::part_of;
+use crate::bytes::size;
+use crate::bytes::widen;
+use crate::units::Seconds;
+use crate::units::Tenths;
+
+pub enum Leg {
+    One,
+    Two,
+}
+
+// The fields of a body. The digits or the entries that follow them stay in the lent bytes; `count` says how many there are.
+pub enum Body {
+    Setup {
+        nature: u8,
+        service: u8,
+        forwarded: bool,
+        count: u8,
+    },
+    RouteFailure(u8),
+    Busy(u8),
+    NoAnswer,
+    Seized,
+    Answer,
+    MidCall(u8),
+    Moved,
+    Clear(Leg, u8),
+    PeriodOver(Leg),
+    RequestReport(u8),
+    Continue,
+    Connect {
+        nature: u8,
+        count: u8,
+    },
+    Release,
+    ApplyCharging(Leg, Tenths),
+    ActivityTest,
+    Abort,
+}
+
+pub struct Item {
+    pub call: u32,
+    pub time: Tenths,
+    pub body: Body,
+}
+
+// The item and the place where its digits or entries begin, or the refusal.
+pub enum ReadItem {
+    Item(Item, usize),
+    Refused(u8),
+}
+
+// An entry of a Request report, of any values.
+pub struct Entry {
+    pub point: u8,
+    pub leg: u8,
+    pub mode: u8,
+    pub timer: Seconds,
+}
+
+// The entry and the place after it, or the end.
+pub enum ReadEntry {
+    Entry(Entry, usize),
+    End,
+}
+
+// What follows the fields.
+pub enum Rest {
+    Nothing,
+    Digits(u8),
+    Entries(u8),
+}
+
+// A row of the table of kinds: the kind, the fields' bytes (the first `len`), whether the fields are in range, and what follows.
+pub struct Fixed {
+    pub kind: u8,
+    pub len: u8,
+    pub bytes: [u8; 5],
+    pub right: bool,
+    pub rest: Rest,
+}
+
+fn no_field(kind: u8) -> Fixed
+    ensures { λ r. ⌜ r ≡ fixed kind [] true Rest.Nothing ⌝ }
+{
+    Fixed {
+        kind,
+        len: 0,
+        bytes: [0, 0, 0, 0, 0],
+        right: true,
+        rest: Rest::Nothing,
+    }
+}
+
+fn one_field(kind: u8, a: u8, right: bool, rest: Rest) -> Fixed
+    ensures { λ r. ⌜ r ≡ fixed kind (a ∷ []) right rest ⌝ }
+{
+    Fixed {
+        kind,
+        len: 1,
+        bytes: [a, 0, 0, 0, 0],
+        right,
+        rest,
+    }
+}
+
+fn two_fields(kind: u8, a: u8, b: u8, right: bool, rest: Rest) -> Fixed
+    ensures { λ r. ⌜ r ≡ fixed kind (a ∷ b ∷ []) right rest ⌝ }
+{
+    Fixed {
+        kind,
+        len: 2,
+        bytes: [a, b, 0, 0, 0],
+        right,
+        rest,
+    }
+}
+
+fn four_fields(kind: u8, a: u8, b: u8, c: u8, d: u8, right: bool, rest: Rest) -> Fixed
+    ensures { λ r. ⌜ r ≡ fixed kind (a ∷ b ∷ c ∷ d ∷ []) right rest ⌝ }
+{
+    Fixed {
+        kind,
+        len: 4,
+        bytes: [a, b, c, d, 0],
+        right,
+        rest,
+    }
+}
+
+// A byte and a field of four bytes.
+fn long_field(kind: u8, a: u8, p: u64, right: bool) -> Fixed
+    ensures { λ r. ⌜ r ≡ fixed kind (a ∷ bytes4 p) right Rest.Nothing ⌝ }
+{
+    Fixed {
+        kind,
+        len: 5,
+        bytes: [
+            a,
+            (p / 65536 / 256 % 256) as u8,
+            (p / 65536 % 256) as u8,
+            (p / 256 % 256) as u8,
+            (p % 256) as u8,
+        ],
+        right,
+        rest: Rest::Nothing,
+    }
+}
+
+fn leg_number(leg: Leg) -> u8
+    ensures { λ r. ⌜ r ≡ legNumber leg ⌝ }
+{
+    match leg {
+        Leg::One => 1,
+        Leg::Two => 2,
+    }
+}
+
+fn leg_of(two: bool) -> Leg
+    ensures { λ r. ⌜ r ≡ legOf two ⌝ }
+{
+    if two { Leg::Two } else { Leg::One }
+}
+
+// The table of kinds.
+pub(crate) fn fixed_of(body: Body) -> Fixed
+    ensures { λ r. ⌜ r ≡ fixedOf (formOf body) ⌝ }
+{
+    match body {
+        Body::Setup {
+            nature,
+            service,
+            forwarded,
+            count,
+        } => four_fields(
+            1,
+            nature,
+            service,
+            forwarded as u8,
+            count,
+            is_within(nature, 0, 127) & is_within(count, 1, 15),
+            Rest::Digits(count),
+        ),
+        Body::RouteFailure(cause) => one_field(2, cause, is_within(cause, 0, 127), Rest::Nothing),
+        Body::Busy(cause) => one_field(3, cause, is_within(cause, 0, 127), Rest::Nothing),
+        Body::NoAnswer => no_field(4),
+        Body::Seized => no_field(5),
+        Body::Answer => no_field(6),
+        Body::MidCall(digit) => one_field(7, digit, is_within(digit, 0, 14), Rest::Nothing),
+        Body::Moved => no_field(8),
+        Body::Clear(leg, cause) => two_fields(
+            9,
+            leg_number(leg),
+            cause,
+            is_within(cause, 0, 127),
+            Rest::Nothing,
+        ),
+        Body::PeriodOver(leg) => one_field(10, leg_number(leg), true, Rest::Nothing),
+        Body::RequestReport(count) => one_field(
+            20,
+            count,
+            is_within(count, 1, 10),
+            Rest::Entries(count),
+        ),
+        Body::Continue => no_field(21),
+        Body::Connect { nature, count } => two_fields(
+            22,
+            nature,
+            count,
+            is_within(nature, 0, 127) & is_within(count, 1, 15),
+            Rest::Digits(count),
+        ),
+        Body::Release => no_field(23),
+        Body::ApplyCharging(leg, p) => long_field(24, leg_number(leg), p.0, p.is_period()),
+        Body::ActivityTest => no_field(25),
+        Body::Abort => no_field(26),
+    }
+}
+
+// The body of the kind n: b0 to b3 are its first bytes, `leg` is the leg that b0 stands for, `p` the number from b1 on.
+// A number that no kind has gives an Abort: its own kind, 26, then tells them apart.
+fn body_from(n: u8, b0: u8, b1: u8, b2: u8, b3: u8, leg: Leg, p: u64) -> Body
+    ensures { λ r. ⌜ r ≡ bodyFrom n b0 b1 b2 b3 leg p ⌝ }
+{
+    match n {
+        1 => Body::Setup {
+            nature: b0,
+            service: b1,
+            forwarded: b2 == 1,
+            count: b3,
+        },
+        2 => Body::RouteFailure(b0),
+        3 => Body::Busy(b0),
+        4 => Body::NoAnswer,
+        5 => Body::Seized,
+        6 => Body::Answer,
+        7 => Body::MidCall(b0),
+        8 => Body::Moved,
+        9 => Body::Clear(leg, b1),
+        10 => Body::PeriodOver(leg),
+        20 => Body::RequestReport(b0),
+        21 => Body::Continue,
+        22 => Body::Connect {
+            nature: b0,
+            count: b1,
+        },
+        23 => Body::Release,
+        24 => Body::ApplyCharging(leg, Tenths(p)),
+        25 => Body::ActivityTest,
+        _ => Body::Abort,
+    }
+}
+
+fn item_of(s: &[u8]) -> Item
+    ensures { λ r. ⌜ r ≡ itemOf (now (s .entry)) ⌝ }
+{
+    let b = from(s, 14);
+    let b0 = at(b, 0);
+    let body = body_from(
+        at(s, 3),
+        b0,
+        at(b, 1),
+        at(b, 2),
+        at(b, 3),
+        leg_of(b0 == 2),
+        widen(be32(from(b, 1))),
+    );
+    Item {
+        call: be32(from(s, 4)),
+        time: Tenths(be48(from(s, 8))),
+        body,
+    }
+}
+
+// The first 14 bytes of n in all: length, version, kind, call, time.
+pub(crate) fn head_of(n: usize, kind: u8, call: u32, time: u64) -> [u8; 14]
+    ensures { λ r. ⌜ r ≡ headOf n kind call time ⌝ }
+{
+    [
+        (n / 256 % 256) as u8,
+        (n % 256) as u8,
+        1,
+        kind,
+        (call / 65536 / 256 % 256) as u8,
+        (call / 65536 % 256) as u8,
+        (call / 256 % 256) as u8,
+        (call % 256) as u8,
+        (time / 4294967296 / 256 % 256) as u8,
+        (time / 4294967296 % 256) as u8,
+        (time / 65536 / 256 % 256) as u8,
+        (time / 65536 % 256) as u8,
+        (time / 256 % 256) as u8,
+        (time % 256) as u8,
+    ]
+}
+
+// Where the digits or the entries begin.
+pub(crate) fn rest_at(f: Fixed) -> usize
+    ensures { λ r. ⌜ (r ≡ 14 + f .len) × (r ≤ 269) ⌝ }
+{
+    14 + size(f.len)
+}
+
+// The bytes begin as the item is written.
+fn starts(item: Item, f: Fixed, s: &[u8]) -> bool
+    ensures { λ r. ⌜ r ≡ (leads (headOf (length (now (s .entry))) (f .kind) (item .call) (item .time .0)) (now (s .entry)) && leads (take (f .len) (f .bytes)) (drop 14 (now (s .entry)))) ⌝ }
+{
+    let time = item.time.0;
+    let bytes = f.bytes;
+    let head = head_of(s.len(), f.kind, item.call, time);
+    leading(&head, s) & leading(part_of(&bytes, 0, size(f.len)), from(s, 14))
+}
+
+fn rest_right(rest: Rest, t: &[u8]) -> bool
+    ensures { λ r. ⌜ r ≡ restRight rest (now (t .entry)) ⌝ }
+{
+    let n = t.len();
+    let digits = all_within(t, 0, 14);
+    match rest {
+        Rest::Nothing => n == 0,
+        Rest::Digits(count) => (n == count as usize) & digits,
+        Rest::Entries(count) => n == count as usize * 5,
+    }
+}
+
+// Every field of the item is in its range, and `t` is its digits or entries.
+pub(crate) fn item_right(item: Item, f: Fixed, t: &[u8]) -> bool
+    ensures { λ r. ⌜ r ≡ ((f .right && restRight (f .rest) (now (t .entry))) && ltb (item .time .0) clockEnd) ⌝ }
+{
+    let time = item.time.0;
+    let rest = f.rest;
+    f.right & rest_right(rest, t) & (time < Tenths::CLOCK_END.0)
+}
+
+// The item that the bytes are, or refusal 1.
+pub fn read_item(s: &[u8]) -> ReadItem
+    ensures { λ r. ⌜ r ≡ readItem (now (s .entry)) ⌝ }
+{
+    let item = item_of(s);
+    let body = item.body;
+    let f = fixed_of(body);
+    let at = rest_at(f);
+    if starts(item, f, s) & item_right(item, f, from(s, at)) {
+        ReadItem::Item(item, at)
+    } else {
+        ReadItem::Refused(1)
+    }
+}
+
+// The item that the bytes from place `a` on are, and the place of its digits or entries.
+pub fn item_at(s: &[u8], a: usize) -> ReadItem
+    ensures { λ r. ⌜ r ≡ readItemAt (now (s .entry)) a ⌝ }
+{
+    if s.len() < a {
+        return ReadItem::Refused(1);
+    }
+    let r = read_item(from(s, a));
+    match r {
+        ReadItem::Item(item, n) => ReadItem::Item(item, a + n),
+        ReadItem::Refused(n) => ReadItem::Refused(n),
+    }
+}
+
+fn entry_of(e: &[u8]) -> Entry
+    ensures { λ r. ⌜ r ≡ entryOf (now (e .entry)) ⌝ }
+{
+    Entry {
+        point: at(e, 0),
+        leg: at(e, 1),
+        mode: at(e, 2),
+        timer: Seconds(be16(from(e, 3)) as u16),
+    }
+}
+
+// The entry i of a Request report, whose entries are `t`.
+pub fn nth_entry(t: &[u8], i: u8) -> Entry
+    ensures { λ r. ⌜ r ≡ entryOf (drop (i * 5) (now (t .entry))) ⌝ }
+{
+    entry_of(from(t, size(i) * 5))
+}
+
+// The entry at a place, and the place after it.
+pub fn entry_at(s: &[u8], a: usize) -> ReadEntry
+    ensures { λ r. ⌜ r ≡ readEntry (now (s .entry)) a ⌝ }
+{
+    let e = from(s, a);
+    if 5 <= e.len() {
+        ReadEntry::Entry(entry_of(e), a + 5)
+    } else {
+        ReadEntry::End
+    }
+}

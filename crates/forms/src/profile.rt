@@ -1,0 +1,239 @@
+// Profiles: reading, and what triggering asks of one (document 01, Forms and Triggering). The lists stay in the lent bytes.
+ghost use mathlib.Core.Path.{_≡_};
+ghost use mathlib.Core.List.{[], _∷_, _++_};
+ghost use mathlib.Core.Bool.{_&&_};
+ghost use Prim.Native.Nat.{_+_, _≤_};
+ghost use lib.ListN.{length, getD, drop};
+ghost use lib.Dec.{leb, eqb};
+ghost use Rattle.forms.specs.Bytes.{bytes2, within, all, leads};
+ghost use Rattle.forms.specs.Fields.{allRight};
+ghost use Rattle.forms.specs.Profile.{handlingNumber, criterionNumber, handlingOf, criterionOf, criterionAt, numberFields, senseRight, listAt, listEnd, numberAt, numbersAt, numbersEnd, viewAt, profileOf, readProfile, matches, someMatches};
+use crate::bytes::all_within;
+use crate::bytes::at;
+use crate::bytes::from;
+use crate::bytes::is_within;
+use crate::bytes::leading;
+use crate::bytes::part_of;
+use crate::bytes::size;
+use crate::units::Seconds;
+
+pub enum Handling {
+    Continue,
+    Release,
+}
+
+pub enum Criterion {
+    Absent,
+    Enabling,
+    Inhibiting,
+}
+
+// A profile in its lent bytes: the values of its single fields, and where the lists of lengths and of services stand.
+pub struct ProfileView {
+    pub handling: Handling,
+    pub timer: Seconds,
+    pub sense: Criterion,
+    pub lengths: usize,
+    pub services: usize,
+    pub forwarding: Criterion,
+}
+
+pub enum ReadProfile {
+    Profile(ProfileView),
+    Refused(u8),
+}
+
+// Stored numbers: whether all are in range, and the place after them.
+pub struct Numbers {
+    pub right: bool,
+    pub end: usize,
+}
+
+fn handling_number(h: Handling) -> u8
+    ensures { λ r. ⌜ r ≡ handlingNumber h ⌝ }
+{
+    match h {
+        Handling::Continue => 0,
+        Handling::Release => 1,
+    }
+}
+
+fn handling_of(release: bool) -> Handling
+    ensures { λ r. ⌜ r ≡ handlingOf release ⌝ }
+{
+    if release {
+        Handling::Release
+    } else {
+        Handling::Continue
+    }
+}
+
+fn criterion_number(c: Criterion) -> u8
+    ensures { λ r. ⌜ r ≡ criterionNumber c ⌝ }
+{
+    match c {
+        Criterion::Absent => 0,
+        Criterion::Enabling => 1,
+        Criterion::Inhibiting => 2,
+    }
+}
+
+fn criterion_of(enabling: bool, inhibiting: bool) -> Criterion
+    ensures { λ r. ⌜ r ≡ criterionOf enabling inhibiting ⌝ }
+{
+    if enabling {
+        Criterion::Enabling
+    } else if inhibiting {
+        Criterion::Inhibiting
+    } else {
+        Criterion::Absent
+    }
+}
+
+fn criterion_at(s: &[u8], q: usize) -> Criterion
+    ensures { λ r. ⌜ r ≡ criterionAt (now (s .entry)) q ⌝ }
+{
+    let n = at(s, q);
+    criterion_of(n == 1, n == 2)
+}
+
+fn sense_right(sense: Criterion, total: usize) -> bool
+    ensures { λ r. ⌜ r ≡ senseRight sense total ⌝ }
+{
+    match sense {
+        Criterion::Absent => total == 0,
+        Criterion::Enabling => 1 <= total,
+        Criterion::Inhibiting => 1 <= total,
+    }
+}
+
+// The list whose count stands at place q: a part of the lent bytes.
+pub fn list_at(s: &[u8], q: usize) -> &[u8]
+    ensures { λ r. ⌜ now r ≡ listAt (now (s .entry)) q ⌝ }
+{
+    let t = from(s, q);
+    part_of(t, 1, size(at(t, 0)))
+}
+
+fn list_end(s: &[u8], q: usize) -> usize
+    requires { ⌜ q ≤ 70000 ⌝ }
+    ensures { λ r. ⌜ (r ≡ listEnd (now (s .entry)) q) × (r ≤ q + 256) ⌝ }
+{
+    q + 1 + size(at(s, q))
+}
+
+// The stored number at place q is in range.
+fn number_right(s: &[u8], q: usize) -> bool
+    requires { ⌜ q ≤ 70000 ⌝ }
+    ensures { λ r. ⌜ r ≡ allRight (numberFields (numberAt (now (s .entry)) q ∷ [])) ⌝ }
+{
+    let digits = list_at(s, q + 1);
+    let n = digits.len();
+    is_within(at(s, q), 0, 127) & ((1 <= n) & (n <= 15)) & all_within(digits, 0, 14)
+}
+
+// The n stored numbers.
+fn walk_numbers(s: &[u8], n: u8) -> Numbers
+    ensures { λ r. ⌜ ((r .right ≡ allRight (numberFields (numbersAt n (now (s .entry)) 7))) × (r .end ≡ numbersEnd n (now (s .entry)) 7)) × (r .end ≤ 65542) ⌝ }
+{
+    let mut left = n;
+    let mut right = true;
+    let mut q: usize = 7;
+    while 0 < left {
+        right = right & number_right(s, q);
+        q = list_end(s, q + 1);
+        left -= 1;
+    }
+    Numbers { right, end: q }
+}
+
+// The values at their places, the numbers ending at l.
+fn view_at(s: &[u8], l: usize) -> ProfileView
+    requires { ⌜ l ≤ 65542 ⌝ }
+    ensures { λ r. ⌜ (r ≡ viewAt (now (s .entry)) l) × ((r .lengths ≤ 66000) × (r .services ≤ 66000)) ⌝ }
+{
+    let v = list_end(s, l);
+    let handling = handling_of(at(s, 3) == 1);
+    let sense = criterion_at(s, 5);
+    let forwarding = criterion_at(s, list_end(s, v));
+    ProfileView {
+        handling,
+        timer: Seconds(at(s, 4) as u16),
+        sense,
+        lengths: l,
+        services: v,
+        forwarding,
+    }
+}
+
+// The bytes are written as the profile is.
+fn is_written(s: &[u8], p: ProfileView) -> bool
+    requires { ⌜ p .services ≤ 66000 ⌝ }
+    ensures { λ r. ⌜ r ≡ (((leads (bytes2 (length (now (s .entry))) ++ (1 ∷ [])) (now (s .entry)) && eqb (handlingNumber (p .handling)) (getD (now (s .entry)) 3 0)) && eqb (criterionNumber (p .sense)) (getD (now (s .entry)) 5 0)) && (eqb (criterionNumber (p .forwarding)) (getD (now (s .entry)) (listEnd (now (s .entry)) (p .services)) 0) && eqb (length (drop (listEnd (now (s .entry)) (p .services)) (now (s .entry)))) 1)) ⌝ }
+{
+    let handling = p.handling;
+    let sense = p.sense;
+    let forwarding = p.forwarding;
+    let v = p.services;
+    let f = list_end(s, v);
+    let n = s.len();
+    let start = [(n / 256 % 256) as u8, (n % 256) as u8, 1];
+    leading(&start, s)
+        & (handling_number(handling) == at(s, 3))
+        & (criterion_number(sense) == at(s, 5))
+        & ((criterion_number(forwarding) == at(s, f)) & (from(s, f).len() == 1))
+}
+
+// The single fields and the lists are in range; so are the numbers, where `numbers` says so.
+fn is_right(s: &[u8], p: ProfileView, numbers: bool) -> bool
+    ensures { λ r. ⌜ r ≡ ((within 10 180 (p .timer .0) && leb (getD (now (s .entry)) 6 0) 10 && numbers && leb (length (listAt (now (s .entry)) (p .lengths))) 3 && all (within 1 15) (listAt (now (s .entry)) (p .lengths)) && leb (length (listAt (now (s .entry)) (p .services))) 5) && senseRight (p .sense) (getD (now (s .entry)) 6 0 + length (listAt (now (s .entry)) (p .lengths)))) ⌝ }
+{
+    let timer = p.timer.0;
+    let sense = p.sense;
+    let lengths = list_at(s, p.lengths);
+    let services = list_at(s, p.services);
+    let n = at(s, 6);
+    ((10 <= timer) & (timer <= 180))
+        & (n <= 10)
+        & numbers
+        & (lengths.len() <= 3)
+        & all_within(lengths, 1, 15)
+        & (services.len() <= 5)
+        & sense_right(sense, size(n) + lengths.len())
+}
+
+// The profile that the bytes are, or refusal 2.
+pub fn read_profile(s: &[u8]) -> ReadProfile
+    ensures { λ r. ⌜ r ≡ readProfile (now (s .entry)) ⌝ }
+{
+    let w = walk_numbers(s, at(s, 6));
+    let p = view_at(s, w.end);
+    if is_written(s, p) & is_right(s, p, w.right) {
+        ReadProfile::Profile(p)
+    } else {
+        ReadProfile::Refused(2)
+    }
+}
+
+fn match_at(s: &[u8], q: usize, nature: u8, dialled: &[u8]) -> bool
+    requires { ⌜ q ≤ 70000 ⌝ }
+    ensures { λ r. ⌜ r ≡ matches (numberAt (now (s .entry)) q) nature (now (dialled .entry)) ⌝ }
+{
+    (at(s, q) == nature) & leading(list_at(s, q + 1), dialled)
+}
+
+// Some stored number of the profile matches the dialled one.
+pub fn some_match(s: &[u8], nature: u8, dialled: &[u8]) -> bool
+    ensures { λ r. ⌜ r ≡ someMatches (profileOf (now (s .entry)) .numbers) nature (now (dialled .entry)) ⌝ }
+{
+    let mut left = at(s, 6);
+    let mut q: usize = 7;
+    while 0 < left {
+        if match_at(s, q, nature, dialled) {
+            return true;
+        }
+        q = list_end(s, q + 1);
+        left -= 1;
+    }
+    false
+}

@@ -1,0 +1,66 @@
+// Tenths of a second and whole seconds, kept apart (document 01, Units).
+ghost use mathlib.Core.Path.{_≡_};
+ghost use Rattle.forms.specs.Units.{isPeriod, periodOf, timerOf, tenthsOf};
+
+// Clock readings, charged periods and elapsed times.
+pub struct Tenths(pub u64);
+
+// No-answer timers.
+pub struct Seconds(pub u16);
+
+pub enum Period {
+    Of(Tenths),
+    Refused(u8),
+}
+
+pub enum Timer {
+    Of(Seconds),
+    Refused(u8),
+}
+
+impl Tenths {
+    pub const LONGEST_PERIOD: Tenths = Tenths(864000);
+
+    // Past the last clock reading, which is six bytes long.
+    pub const CLOCK_END: Tenths = Tenths(281474976710656);
+
+    pub fn is_period(self) -> bool
+        ensures { λ r. ⌜ r ≡ isPeriod (self .0) ⌝ }
+    {
+        (1 <= self.0) & (self.0 <= Self::LONGEST_PERIOD.0)
+    }
+
+    // A period of n tenths, or refusal 1.
+    pub fn period(n: u64) -> Period
+        ensures { λ r. ⌜ r ≡ periodOf n ⌝ }
+    {
+        let p = Tenths(n);
+        if p.is_period() {
+            Period::Of(p)
+        } else {
+            Period::Refused(1)
+        }
+    }
+}
+
+impl Seconds {
+    pub const LONGEST_TIMER: Seconds = Seconds(2047);
+
+    // A timer of n seconds, or refusal 11.
+    pub fn timer(n: u16) -> Timer
+        ensures { λ r. ⌜ r ≡ timerOf n ⌝ }
+    {
+        if n <= Self::LONGEST_TIMER.0 {
+            Timer::Of(Seconds(n))
+        } else {
+            Timer::Refused(11)
+        }
+    }
+
+    // The only way across: seconds × 10 = tenths.
+    pub fn tenths(self) -> Tenths
+        ensures { λ r. ⌜ r ≡ tenthsOf self ⌝ }
+    {
+        Tenths(self.0 as u64 * 10)
+    }
+}

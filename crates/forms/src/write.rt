@@ -1,0 +1,62 @@
+// Writing items (document 01, Forms).
+ghost use mathlib.Core.Path.{_≡_};
+ghost use mathlib.Core.List.{_++_};
+ghost use Prim.Native.Nat.{_+_, _≤_};
+ghost use lib.ListN.{length};
+ghost use lib.Seq.{sets};
+ghost use Rattle.forms.specs.Item.{itemBytes, formOf, fixedOf};
+ghost use Rattle.forms.specs.Write.{itemLength, written, after};
+use crate::bytes::copy_in;
+use crate::bytes::part_of;
+use crate::bytes::size;
+use crate::item::Fixed;
+use crate::item::Item;
+use crate::item::fixed_of;
+use crate::item::head_of;
+use crate::item::item_right;
+use crate::item::rest_at;
+
+pub enum Written {
+    Length(usize),
+    Refused(u8),
+}
+
+// Stores three parts, one after the other, at the start of `d`.
+fn put_parts(d: &mut [u8], a: &[u8], b: &[u8], t: &[u8])
+    requires { ⌜ length (now a) + length (now b) + length (now t) ≤ length (now d) ⌝ }
+    ensures { λ _. ⌜ now (d .exit) ≡ sets (now (d .entry)) 0 (now (a .entry) ++ now (b .entry) ++ now (t .entry)) ⌝ }
+{
+    copy_in(d, 0, a);
+    copy_in(d, a.len(), b);
+    copy_in(d, a.len() + b.len(), t);
+}
+
+// Stores the item's n bytes at the start of `d`; f is the item's row of the table of kinds.
+fn put_item(d: &mut [u8], item: Item, f: Fixed, n: usize, t: &[u8])
+    requires { ⌜ ((f ≡ fixedOf (formOf (item .body))) × (n ≡ itemLength item (now t))) × (n ≤ length (now d)) ⌝ }
+    ensures { λ _. ⌜ now (d .exit) ≡ sets (now (d .entry)) 0 (itemBytes item (now (t .entry))) ⌝ }
+{
+    let time = item.time.0;
+    let bytes = f.bytes;
+    let head = head_of(n, f.kind, item.call, time);
+    put_parts(d, &head, part_of(&bytes, 0, size(f.len)), t);
+}
+
+// Writes the item, whose digits or entries are `t`, at the start of `d`. Refusal 1 where a value is out of range or `d` too short.
+pub fn write_item(item: Item, t: &[u8], d: &mut [u8]) -> Written
+    ensures { λ r. ⌜ (r ≡ written item (now (t .entry)) (now (d .entry))) × (now (d .exit) ≡ after item (now (t .entry)) (now (d .entry))) ⌝ }
+{
+    let body = item.body;
+    let f = fixed_of(body);
+    let n = rest_at(f) + t.len();
+    if item_right(item, f, t) {
+        if n <= d.len() {
+            put_item(d, item, f, n, t);
+            Written::Length(n)
+        } else {
+            Written::Refused(1)
+        }
+    } else {
+        Written::Refused(1)
+    }
+}
