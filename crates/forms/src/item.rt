@@ -99,71 +99,50 @@ pub struct Fixed {
     pub rest: Rest,
 }
 
-fn no_field(kind: u8) -> Fixed
-    ensures { λ r. ⌜ r ≡ fixed kind [] true Rest.Nothing ⌝ }
+fn row(kind: u8, len: u8, bytes: [u8; 5], right: bool, rest: Rest) -> Fixed
+    ensures { λ r. ⌜ r ≡ record { kind = kind; len = len; bytes = bytes; right = right; rest = rest } ⌝ }
 {
     Fixed {
         kind,
-        len: 0,
-        bytes: [0, 0, 0, 0, 0],
-        right: true,
-        rest: Rest::Nothing,
+        len,
+        bytes,
+        right,
+        rest,
     }
+}
+
+fn no_field(kind: u8) -> Fixed
+    ensures { λ r. ⌜ r ≡ fixed kind [] true Rest.Nothing ⌝ }
+{
+    row(kind, 0, [0, 0, 0, 0, 0], true, Rest::Nothing)
 }
 
 fn one_field(kind: u8, a: u8, right: bool, rest: Rest) -> Fixed
     ensures { λ r. ⌜ r ≡ fixed kind (a ∷ []) right rest ⌝ }
 {
-    Fixed {
-        kind,
-        len: 1,
-        bytes: [a, 0, 0, 0, 0],
-        right,
-        rest,
-    }
+    row(kind, 1, [a, 0, 0, 0, 0], right, rest)
 }
 
 fn two_fields(kind: u8, a: u8, b: u8, right: bool, rest: Rest) -> Fixed
     ensures { λ r. ⌜ r ≡ fixed kind (a ∷ b ∷ []) right rest ⌝ }
 {
-    Fixed {
-        kind,
-        len: 2,
-        bytes: [a, b, 0, 0, 0],
-        right,
-        rest,
-    }
+    row(kind, 2, [a, b, 0, 0, 0], right, rest)
 }
 
 fn four_fields(kind: u8, a: u8, b: u8, c: u8, d: u8, right: bool, rest: Rest) -> Fixed
     ensures { λ r. ⌜ r ≡ fixed kind (a ∷ b ∷ c ∷ d ∷ []) right rest ⌝ }
 {
-    Fixed {
-        kind,
-        len: 4,
-        bytes: [a, b, c, d, 0],
-        right,
-        rest,
-    }
+    row(kind, 4, [a, b, c, d, 0], right, rest)
 }
 
 // A byte and a field of four bytes.
-fn long_field(kind: u8, a: u8, p: u64, right: bool) -> Fixed
-    ensures { λ r. ⌜ r ≡ fixed kind (a ∷ bytes4 p) right Rest.Nothing ⌝ }
+fn long_field(kind: u8, a: u8, n: u64, right: bool) -> Fixed
+    ensures { λ r. ⌜ r ≡ fixed kind (a ∷ bytes4 n) right Rest.Nothing ⌝ }
 {
-    Fixed {
-        kind,
-        len: 5,
-        bytes: [
-            a,
-            (p / 65536 / 256 % 256) as u8,
-            (p / 65536 % 256) as u8,
-            (p / 256 % 256) as u8,
-            (p % 256) as u8,
-        ],
-        right,
-        rest: Rest::Nothing,
-    }
+    let b = (n / 65536 / 256 % 256) as u8;
+    let c = (n / 65536 % 256) as u8;
+    let d = (n / 256 % 256) as u8;
+    row(kind, 5, [a, b, c, d, (n % 256) as u8], right, Rest::Nothing)
 }
 
 fn leg_number(leg: Leg) -> u8
