@@ -1,17 +1,17 @@
 -- Laws of byte runs, for the proofs of the functions and for the theorems.
-use Prim.Native.Nat.{ℕ, suc, _+_, _≤_, _<_}
+use Prim.Native.Nat.{ℕ, suc, _+_, _*_, _^_, _≤_, _<_}
 use mathlib.Core.Path.{_≡_, refl, sym, ap, _∙_}
 use mathlib.Core.List.{List, [], _∷_, _++_}
 use mathlib.Core.Bool.{Bool, true, false, _&&_, and-true, and-false, and-assoc, false≢true}
 use mathlib.Core.Logic.{_⊎_, inl, inr}
 use native.Mathlib.Numerals.{add-one}
-use native.Mathlib.Nat.{add-zero, add-suc, suc-add}
+use native.Mathlib.Nat.{pow-suc, pow-le-pow-right, lt-of-lt-of-le, add-zero, add-suc, suc-add}
 use lib.ListN.{length, getD, drop, set, drop-of-length-le}
 use native.Mathlib.Omega.{arith}
-use lib.Dec.{eqb, ltb}
+use lib.Dec.{eqb, ltb, lit<}
 use lib.Seq.{drop-cons, sets}
 use borrow.Author.Tests.{eq-eqb, ne-eqb, eqb-true, ltb-true, ltb-false}
-use Rattle.forms.specs.Bytes.{bytes2, all, contains, leads, same}
+use Rattle.forms.specs.Bytes.{toBytes, fromBytes, all, contains, leads, same}
 use Rattle.forms.specs.Fields.{framed}
 
 -- a loop that tests each element: past the end, at one that passes, at one that fails
@@ -44,6 +44,17 @@ module _ (a d : List ℕ) (i : ℕ) (h : i < length a) (l : i < length d) where
   pub leads-step : getD a i 0 ≡ getD d i 0 → leads (drop (i + 1) a) (drop (i + 1) d) ≡ leads (drop i a) (drop i d)
   unfolding leads
   leads-step e = rw (add-one i, drop-cons a i 0 h, drop-cons d i 0 l, eq-eqb _ _ e)
+
+-- a loop that reads a number: one more byte, and all that is read so far fits
+pub number-next : (s : List ℕ) (i : ℕ) → fromBytes i s * 256 + getD s i 0 ≡ fromBytes (i + 1) s
+number-next s i = rw add-one
+
+module _ (i n b : ℕ) (h : n < 256 ^ i) (l : b < 256) where
+  pub number-below : n * 256 + b < 256 ^ (i + 1)
+  number-below = rw (add-one, pow-suc) (omega arith)
+
+  pub number-fits : i < 6 → n * 256 + b < 281474976710656
+  number-fits k = lt-of-lt-of-le number-below (pow-le-pow-right {n = 256} (lit< tt) {i = i + 1} {j = 6} (omega arith))
 
 -- a loop that stores the elements of s from place a on: what is left to store, at the start, after a turn, at the end
 pub sets-start : (d s : List ℕ) (a : ℕ) → sets d (a + 0) (drop 0 s) ≡ sets d a s
@@ -120,14 +131,14 @@ same-rest (x ∷ a) [] = refl
 same-rest (x ∷ a) (y ∷ s) = rw (same-rest a s)
 
 -- bytes are a frame and a body where they begin with their own length and version 1, and the body is the same
-pub framed-same : (b s : List ℕ) → same (framed b) s ≡ (leads (bytes2 (length s) ++ (1 ∷ [])) s && same b (drop 3 s))
+pub framed-same : (b s : List ℕ) → same (framed b) s ≡ (leads (toBytes 2 (length s) ++ (1 ∷ [])) s && same b (drop 3 s))
 unfolding same leads
 framed-same b [] = refl
 framed-same b (x ∷ []) = rw (and-false, and-false)
 framed-same b (x ∷ y ∷ []) = simp and-false
 framed-same b (x ∷ y ∷ z ∷ s) = go (same b s) refl
   where
-    go : (f : Bool) → same b s ≡ f → same (framed b) (x ∷ y ∷ z ∷ s) ≡ (leads (bytes2 (length (x ∷ y ∷ z ∷ s)) ++ (1 ∷ [])) (x ∷ y ∷ z ∷ s) && same b s)
+    go : (f : Bool) → same b s ≡ f → same (framed b) (x ∷ y ∷ z ∷ s) ≡ (leads (toBytes 2 (length (x ∷ y ∷ z ∷ s)) ++ (1 ∷ [])) (x ∷ y ∷ z ∷ s) && same b s)
     go true e =
         let n : 3 + length s ≡ length (x ∷ y ∷ z ∷ s) = omega arith in
         rw (e, same-true b s e, n) (simp and-true)

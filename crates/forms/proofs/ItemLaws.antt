@@ -7,7 +7,7 @@ use native.Mathlib.Omega.{arith}
 use lib.ListN.{length, take, drop, length-append}
 use lib.Seq.{drop-drop}
 use lib.Dec.{ltb, lit≤}
-use Rattle.forms.specs.Bytes.{bytes2, bytes4, bytes6, leads, same}
+use Rattle.forms.specs.Bytes.{toBytes, leads, same}
 use Rattle.forms.specs.Units.{clockEnd}
 use Rattle.forms.specs.Fields.{framed}
 use Rattle.forms.specs.Item.{formOf, fieldBytes, restRight, itemBytes, itemRight, restAt, bodyFrom, bodyOf, itemOf, isItem, readItem, headOf, pad, fixedOf}
@@ -50,14 +50,14 @@ fields-back b = pad-back 5 (fieldBytes b) (fields-fit b)
 -- the 14 bytes before the fields f, in a form of n bytes
 module _ (k c t : ℕ) (f : List ℕ) where
   abbrev inner : List ℕ
-  inner = k ∷ (bytes4 c ++ bytes6 t)
+  inner = k ∷ (toBytes 4 c ++ toBytes 6 t)
 
   -- s is such a form, what follows in s included, where it begins so
   form-same : (s : List ℕ) → same (framed (inner ++ (f ++ drop (14 + length f) s))) s ≡ (leads (headOf (length s) k c t) s && leads f (drop 14 s))
   form-same s =
       let n : 14 + length f ≡ 3 + length (inner ++ f) = omega arith in
       let e : drop (14 + length f) s ≡ drop (length (inner ++ f)) (drop 3 s) = rw (drop-drop, n) in
-      rw (framed-same (inner ++ (f ++ drop (14 + length f) s)) s, e, same-rest (inner ++ f) (drop 3 s), leads-both inner f (drop 3 s), drop-drop 11 3 s, leads-both (bytes2 (length s) ++ (1 ∷ [])) inner s, and-assoc)
+      rw (framed-same (inner ++ (f ++ drop (14 + length f) s)) s, e, same-rest (inner ++ f) (drop 3 s), leads-both inner f (drop 3 s), drop-drop 11 3 s, leads-both (toBytes 2 (length s) ++ (1 ∷ [])) inner s, and-assoc)
 
 -- of an item and its row f: where its digits or entries begin, and that what the code tests is what makes the bytes an item
 module _ (i : Item) (f : Fixed) (e : f ≡ fixedOf (formOf (i .body))) where

@@ -11,7 +11,7 @@ use borrow.Author.Tests.{eq-eqb, ne-eqb}
 use lib.ListN.{length, getD, take, drop, drop-of-length-le, length-drop}
 use lib.Seq.{drop-cons, drop-drop, getD-drop, length-take-le, take-all}
 use lib.Dec.{leb, eqb}
-use Rattle.forms.specs.Bytes.{bytes2, within, part, all, leads, same}
+use Rattle.forms.specs.Bytes.{toBytes, within, part, all, leads, same}
 use Rattle.forms.specs.Fields.{Field, bytesIn, allRight}
 use Rattle.forms.specs.Profile.{handlingNumber, criterionNumber, count, numberFields, listFields, fieldsOf, profileBytes, senseRight, profileRight, listAt, listEnd, numberAt, numbersAt, numbersEnd, viewAt, viewOf, profileOf, isProfile, matches, someMatches}
 use Rattle.forms.specs.declared.profile.ProfileView.{ProfileView}
@@ -104,7 +104,7 @@ module _ (s : List ℕ) (p : ProfileView) (e : p ≡ viewOf s) where
   n = getD s 6 0
 
   profile-same : same (profileBytes (profileOf s)) s
-      ≡ (((leads (bytes2 (length s) ++ (1 ∷ [])) s && eqb (handlingNumber (p .handling)) (getD s 3 0)) && eqb (criterionNumber (p .sense)) (getD s 5 0))
+      ≡ (((leads (toBytes 2 (length s) ++ (1 ∷ [])) s && eqb (handlingNumber (p .handling)) (getD s 3 0)) && eqb (criterionNumber (p .sense)) (getD s 5 0))
       && (eqb (criterionNumber (p .forwarding)) (getD s (listEnd s (p .services)) 0) && eqb (length (drop (listEnd s (p .services)) s)) 1))
   unfolding profileBytes fieldsOf profileOf viewAt same
   profile-same =
@@ -129,7 +129,7 @@ module _ (s : List ℕ) (p : ProfileView) (e : p ≡ viewOf s) where
   profile-right = rw (e, rights-both (numberFields (numbersAt n s 7)) (listFields (profileOf s)), counts n s 7) (simp (and-assoc, and-true))
 
   pub is-profile : (m : ℕ) → m ≡ n → (numbers : Bool) → numbers ≡ allRight (numberFields (numbersAt m s 7)) → isProfile (profileOf s) s
-      ≡ ((((leads (bytes2 (length s) ++ (1 ∷ [])) s && eqb (handlingNumber (p .handling)) (getD s 3 0)) && eqb (criterionNumber (p .sense)) (getD s 5 0))
+      ≡ ((((leads (toBytes 2 (length s) ++ (1 ∷ [])) s && eqb (handlingNumber (p .handling)) (getD s 3 0)) && eqb (criterionNumber (p .sense)) (getD s 5 0))
       && (eqb (criterionNumber (p .forwarding)) (getD s (listEnd s (p .services)) 0) && eqb (length (drop (listEnd s (p .services)) s)) 1))
       && ((within 10 180 (p .timer .0) && leb n 10 && numbers && leb (length (listAt s (p .lengths))) 3 && all (within 1 15) (listAt s (p .lengths)) && leb (length (listAt s (p .services))) 5)
       && senseRight (p .sense) (n + length (listAt s (p .lengths)))))

@@ -8,7 +8,7 @@ use native.Mathlib.Omega.{arith}
 use borrow.Author.Tests.{le-leb, lt-leb}
 use lib.ListN.{length, drop, length-append}
 use lib.Seq.{sets, sets-eq}
-use Rattle.forms.specs.Bytes.{bytes4, bytes6}
+use Rattle.forms.specs.Bytes.{toBytes}
 use Rattle.forms.specs.Item.{formOf, fieldBytes, itemBytes, itemRight, restAt, headOf}
 use Rattle.forms.specs.Write.{itemLength, writable, written, after}
 use Rattle.forms.specs.declared.item.Item.{Item}
@@ -25,7 +25,7 @@ module _ (i : Item) (t : List ℕ) where
   unfolding itemBytes restAt
   item-parts =
       let f = fieldBytes (i .body) in
-      let b = formOf (i .body) .kind ∷ (bytes4 (i .call) ++ (bytes6 (i .time .0) ++ (f ++ t))) in
+      let b = formOf (i .body) .kind ∷ (toBytes 4 (i .call) ++ (toBytes 6 (i .time .0) ++ (f ++ t))) in
       let n : 3 + length b ≡ 14 + length f + length t = omega (arith, length-append f t) in
       rw n
 

@@ -1,29 +1,18 @@
 -- Byte runs. Document 01, Forms: "Big-endian; a field whose width isn't given is one byte."
-use Prim.Native.Nat.{ℕ, _+_, _*_, _/_, _%_}
+use Prim.Native.Nat.{ℕ, zero, suc, _+_, _*_, _/_, _%_}
 use mathlib.Core.List.{List, [], _∷_, _++_}
 use mathlib.Core.Bool.{Bool, true, false, _&&_, _||_}
 use lib.ListN.{getD, take, drop}
 use lib.Dec.{leb, eqb}
 
--- a number as 2, 4 and 6 bytes, the highest first
-abbrev pub bytes2 : ℕ → List ℕ
-bytes2 n = n / 256 % 256 ∷ n % 256 ∷ []
+-- a number in w bytes, the highest first; and the number that the first w bytes are
+abbrev pub toBytes : ℕ → ℕ → List ℕ
+toBytes zero n = []
+toBytes (suc w) n = toBytes w (n / 256) ++ (n % 256 ∷ [])
 
-abbrev pub bytes4 : ℕ → List ℕ
-bytes4 n = bytes2 (n / 65536) ++ bytes2 n
-
-abbrev pub bytes6 : ℕ → List ℕ
-bytes6 n = bytes2 (n / 4294967296) ++ bytes4 n
-
--- the number that the first 2, 4 and 6 bytes are
-abbrev pub be2 : List ℕ → ℕ
-be2 s = getD s 0 0 * 256 + getD s 1 0
-
-abbrev pub be4 : List ℕ → ℕ
-be4 s = be2 s * 65536 + be2 (drop 2 s)
-
-abbrev pub be6 : List ℕ → ℕ
-be6 s = be2 s * 4294967296 + be4 (drop 2 s)
+abbrev pub fromBytes : ℕ → List ℕ → ℕ
+fromBytes zero s = 0
+fromBytes (suc w) s = fromBytes w s * 256 + getD s w 0
 
 -- the n bytes from place a on
 abbrev pub part : List ℕ → ℕ → ℕ → List ℕ

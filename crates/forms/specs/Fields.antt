@@ -3,7 +3,7 @@ use Prim.Native.Nat.{ℕ, _+_}
 use mathlib.Core.List.{List, [], _∷_, _++_}
 use mathlib.Core.Bool.{Bool, true, false, _&&_}
 use lib.ListN.{length}
-use Rattle.forms.specs.Bytes.{bytes2, bytes4, within, all}
+use Rattle.forms.specs.Bytes.{toBytes, within, all}
 use Rattle.forms.specs.Units.{isPeriod}
 use Rattle.forms.specs.declared.units.Tenths.{Tenths}
 use Rattle.forms.specs.declared.item.Leg.{Leg}
@@ -67,7 +67,7 @@ entryCount n = byte n (within 1 10 n)
 
 -- period (4 bytes) 1..864000
 abbrev pub period : Tenths → Field
-period p = run (bytes4 (p .0)) (isPeriod (p .0))
+period p = run (toBytes 4 (p .0)) (isPeriod (p .0))
 
 -- the fields one after the other, and all of them in range
 abbrev pub bytesIn : List Field → List ℕ
@@ -80,4 +80,4 @@ allRight (f ∷ fs) = f .right && allRight fs
 
 -- "Two bytes total length, equal to the bytes handed over, and one version byte 1"
 abbrev pub framed : List ℕ → List ℕ
-framed b = bytes2 (3 + length b) ++ (1 ∷ b)
+framed b = toBytes 2 (3 + length b) ++ (1 ∷ b)

@@ -4,7 +4,7 @@ use mathlib.Core.List.{List, [], _∷_, _++_}
 use mathlib.Core.Bool.{Bool, true, _&&_, cond}
 use lib.ListN.{length, getD, drop}
 use lib.Dec.{ltb, leb, eqb}
-use Rattle.forms.specs.Bytes.{bytes2, bytes4, bytes6, be2, be4, be6, all, same}
+use Rattle.forms.specs.Bytes.{toBytes, fromBytes, all, same}
 use Rattle.forms.specs.Units.{clockEnd}
 use Rattle.forms.specs.Fields.{Field, nature, service, forwarded, digitCount, isDigit, digit, cause, leg, entryCount, period, bytesIn, allRight, framed}
 use Rattle.forms.specs.declared.item.Leg.{Leg}
@@ -63,7 +63,7 @@ abbrev pub fieldBytes : Body → List ℕ
 fieldBytes b = bytesIn (formOf b .fields)
 
 unfoldable pub itemBytes : Item → List ℕ → List ℕ
-itemBytes i t = framed (formOf (i .body) .kind ∷ (bytes4 (i .call) ++ (bytes6 (i .time .0) ++ (fieldBytes (i .body) ++ t))))
+itemBytes i t = framed (formOf (i .body) .kind ∷ (toBytes 4 (i .call) ++ (toBytes 6 (i .time .0) ++ (fieldBytes (i .body) ++ t))))
 
 -- every field is in its range, and t is what follows
 unfoldable pub itemRight : Item → List ℕ → Bool
@@ -106,11 +106,11 @@ bodyFrom n b0 b1 b2 b3 l p =
     ∷ [])
 
 unfoldable pub bodyOf : ℕ → List ℕ → Body
-bodyOf n b = bodyFrom n (getD b 0 0) (getD b 1 0) (getD b 2 0) (getD b 3 0) (legOf (eqb (getD b 0 0) 2)) (be4 (drop 1 b))
+bodyOf n b = bodyFrom n (getD b 0 0) (getD b 1 0) (getD b 2 0) (getD b 3 0) (legOf (eqb (getD b 0 0) 2)) (fromBytes 4 (drop 1 b))
 
 -- the values at their places, whatever the bytes are
 unfoldable pub itemOf : List ℕ → Item
-itemOf s = record { call = be4 (drop 4 s); time = record { 0 = be6 (drop 8 s) }; body = bodyOf (getD s 3 0) (drop 14 s) }
+itemOf s = record { call = fromBytes 4 (drop 4 s); time = record { 0 = fromBytes 6 (drop 8 s) }; body = bodyOf (getD s 3 0) (drop 14 s) }
 
 -- the digits or the entries of the body b, in the item's bytes
 abbrev pub restOf : Body → List ℕ → List ℕ
@@ -135,7 +135,7 @@ readItemAt s a = placed a (readItem (drop a s))
 -- ---- the entries of a Request report: "point, leg, mode, timer (2 bytes)"
 
 unfoldable pub entryOf : List ℕ → Entry
-entryOf e = record { point = getD e 0 0; leg = getD e 1 0; mode = getD e 2 0; timer = record { 0 = be2 (drop 3 e) } }
+entryOf e = record { point = getD e 0 0; leg = getD e 1 0; mode = getD e 2 0; timer = record { 0 = fromBytes 2 (drop 3 e) } }
 
 -- the entry at place a, and the place after it; the end where no whole entry is left
 unfoldable pub readEntry : List ℕ → ℕ → ReadEntry
@@ -144,7 +144,7 @@ readEntry s a = cond (leb 5 (length (drop a s))) (E.Entry (entryOf (drop a s)) (
 -- ---- what the code keeps of a row: the fields' bytes in five places; and the 14 bytes before them in a form of n bytes
 
 abbrev pub headOf : ℕ → ℕ → ℕ → ℕ → List ℕ
-headOf n kind call time = bytes2 n ++ (1 ∷ kind ∷ (bytes4 call ++ bytes6 time))
+headOf n kind call time = toBytes 2 n ++ (1 ∷ kind ∷ (toBytes 4 call ++ toBytes 6 time))
 
 abbrev pub pad : ℕ → List ℕ → List ℕ
 pad zero l = []

@@ -1,9 +1,9 @@
 // Lent byte runs: reading never leaves them, whatever the place. Numbers are big-endian (document 01, Forms).
 ghost use mathlib.Core.Path.{_≡_};
-ghost use Prim.Native.Nat.{_+_, _<_, _≤_};
+ghost use Prim.Native.Nat.{_+_, _<_, _≤_, _^_};
 ghost use lib.ListN.{length, getD, drop};
 ghost use lib.Seq.{sets};
-ghost use Rattle.forms.specs.Bytes.{be2, be4, be6, part, within, all, contains, leads};
+ghost use Rattle.forms.specs.Bytes.{fromBytes, part, within, all, contains, leads};
 
 // The byte at `i`, 0 past the end.
 pub fn at(s: &[u8], i: usize) -> u8
@@ -27,41 +27,24 @@ pub fn part_of(s: &[u8], a: usize, n: usize) -> &[u8]
     if n <= t.len() { &t[..n] } else { t }
 }
 
-pub(crate) fn wide(x: u8) -> u64
-    ensures { λ r. ⌜ (r ≡ x) × (r < 256) ⌝ }
-{
-    x as u64
-}
-
 pub(crate) fn size(n: u8) -> usize
     ensures { λ r. ⌜ (r ≡ n) × (r < 256) ⌝ }
 {
     n as usize
 }
 
-pub(crate) fn widen(x: u32) -> u64
-    ensures { λ r. ⌜ (r ≡ x) × (r < 4294967296) ⌝ }
+// The number that the first w bytes are.
+pub(crate) fn number(s: &[u8], w: usize) -> usize
+    requires { ⌜ w ≤ 6 ⌝ }
+    ensures { λ r. ⌜ (r ≡ fromBytes w (now (s .entry))) × (r < 256 ^ w) ⌝ }
 {
-    x as u64
-}
-
-// The numbers that the first 2, 4 and 6 bytes are.
-pub(crate) fn be16(s: &[u8]) -> u64
-    ensures { λ r. ⌜ (r ≡ be2 (now (s .entry))) × (r < 65536) ⌝ }
-{
-    wide(at(s, 0)) * 256 + wide(at(s, 1))
-}
-
-pub(crate) fn be32(s: &[u8]) -> u32
-    ensures { λ r. ⌜ r ≡ be4 (now (s .entry)) ⌝ }
-{
-    (be16(s) * 65536 + be16(from(s, 2))) as u32
-}
-
-pub(crate) fn be48(s: &[u8]) -> u64
-    ensures { λ r. ⌜ r ≡ be6 (now (s .entry)) ⌝ }
-{
-    be16(s) * 4294967296 + widen(be32(from(s, 2)))
+    let mut n: usize = 0;
+    let mut i: usize = 0;
+    while i < w {
+        n = n * 256 + size(at(s, i));
+        i += 1;
+    }
+    n
 }
 
 pub(crate) fn is_within(n: u8, low: u8, high: u8) -> bool

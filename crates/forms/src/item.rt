@@ -5,21 +5,11 @@ ghost use mathlib.Core.Bool.{true, _&&_};
 ghost use Prim.Native.Nat.{_+_, _*_, _≤_};
 ghost use lib.ListN.{length, take, drop};
 ghost use lib.Dec.{ltb};
-ghost use Rattle.forms.specs.Bytes.{bytes4, leads};
+ghost use Rattle.forms.specs.Bytes.{toBytes, leads};
 ghost use Rattle.forms.specs.Units.{clockEnd};
 ghost use Rattle.forms.specs.Fields.{legNumber};
 ghost use Rattle.forms.specs.Item.{formOf, restRight, legOf, bodyFrom, itemOf, readItem, readItemAt, entryOf, readEntry, headOf, fixed, fixedOf};
-use crate::bytes::all_within;
-use crate::bytes::at;
-use crate::bytes::be16;
-use crate::bytes::be32;
-use crate::bytes::be48;
-use crate::bytes::from;
-use crate::bytes::is_within;
-use crate::bytes::leading;
-use crate::bytes::part_of;
-use crate::bytes::size;
-use crate::bytes::widen;
+use crate::bytes;
 use crate::units::Seconds;
 use crate::units::Tenths;
 
@@ -137,10 +127,10 @@ fn four_fields(kind: u8, a: u8, b: u8, c: u8, d: u8, right: bool, rest: Rest) ->
 
 // A byte and a field of four bytes.
 fn long_field(kind: u8, a: u8, n: u64, right: bool) -> Fixed
-    ensures { λ r. ⌜ r ≡ fixed kind (a ∷ bytes4 n) right Rest.Nothing ⌝ }
+    ensures { λ r. ⌜ r ≡ fixed kind (a ∷ toBytes 4 n) right Rest.Nothing ⌝ }
 {
-    let b = (n / 65536 / 256 % 256) as u8;
-    let c = (n / 65536 % 256) as u8;
+    let b = (n / 256 / 256 / 256 % 256) as u8;
+    let c = (n / 256 / 256 % 256) as u8;
     let d = (n / 256 % 256) as u8;
     row(kind, 5, [a, b, c, d, (n % 256) as u8], right, Rest::Nothing)
 }
@@ -176,28 +166,33 @@ pub(crate) fn fixed_of(body: Body) -> Fixed
             service,
             forwarded as u8,
             count,
-            is_within(nature, 0, 127) & is_within(count, 1, 15),
+            bytes::is_within(nature, 0, 127) & bytes::is_within(count, 1, 15),
             Rest::Digits(count),
         ),
-        Body::RouteFailure(cause) => one_field(2, cause, is_within(cause, 0, 127), Rest::Nothing),
-        Body::Busy(cause) => one_field(3, cause, is_within(cause, 0, 127), Rest::Nothing),
+        Body::RouteFailure(cause) => one_field(
+            2,
+            cause,
+            bytes::is_within(cause, 0, 127),
+            Rest::Nothing,
+        ),
+        Body::Busy(cause) => one_field(3, cause, bytes::is_within(cause, 0, 127), Rest::Nothing),
         Body::NoAnswer => no_field(4),
         Body::Seized => no_field(5),
         Body::Answer => no_field(6),
-        Body::MidCall(digit) => one_field(7, digit, is_within(digit, 0, 14), Rest::Nothing),
+        Body::MidCall(digit) => one_field(7, digit, bytes::is_within(digit, 0, 14), Rest::Nothing),
         Body::Moved => no_field(8),
         Body::Clear(leg, cause) => two_fields(
             9,
             leg_number(leg),
             cause,
-            is_within(cause, 0, 127),
+            bytes::is_within(cause, 0, 127),
             Rest::Nothing,
         ),
         Body::PeriodOver(leg) => one_field(10, leg_number(leg), true, Rest::Nothing),
         Body::RequestReport(count) => one_field(
             20,
             count,
-            is_within(count, 1, 10),
+            bytes::is_within(count, 1, 10),
             Rest::Entries(count),
         ),
         Body::Continue => no_field(21),
@@ -205,7 +200,7 @@ pub(crate) fn fixed_of(body: Body) -> Fixed
             22,
             nature,
             count,
-            is_within(nature, 0, 127) & is_within(count, 1, 15),
+            bytes::is_within(nature, 0, 127) & bytes::is_within(count, 1, 15),
             Rest::Digits(count),
         ),
         Body::Release => no_field(23),
@@ -252,20 +247,20 @@ fn body_from(n: u8, b0: u8, b1: u8, b2: u8, b3: u8, leg: Leg, p: u64) -> Body
 fn item_of(s: &[u8]) -> Item
     ensures { λ r. ⌜ r ≡ itemOf (now (s .entry)) ⌝ }
 {
-    let b = from(s, 14);
-    let b0 = at(b, 0);
+    let b = bytes::from(s, 14);
+    let b0 = bytes::at(b, 0);
     let body = body_from(
-        at(s, 3),
+        bytes::at(s, 3),
         b0,
-        at(b, 1),
-        at(b, 2),
-        at(b, 3),
+        bytes::at(b, 1),
+        bytes::at(b, 2),
+        bytes::at(b, 3),
         leg_of(b0 == 2),
-        widen(be32(from(b, 1))),
+        bytes::number(bytes::from(b, 1), 4) as u64,
     );
     Item {
-        call: be32(from(s, 4)),
-        time: Tenths(be48(from(s, 8))),
+        call: bytes::number(bytes::from(s, 4), 4) as u32,
+        time: Tenths(bytes::number(bytes::from(s, 8), 6) as u64),
         body,
     }
 }
@@ -279,14 +274,14 @@ pub(crate) fn head_of(n: usize, kind: u8, call: u32, time: u64) -> [u8; 14]
         (n % 256) as u8,
         1,
         kind,
-        (call / 65536 / 256 % 256) as u8,
-        (call / 65536 % 256) as u8,
+        (call / 256 / 256 / 256 % 256) as u8,
+        (call / 256 / 256 % 256) as u8,
         (call / 256 % 256) as u8,
         (call % 256) as u8,
-        (time / 4294967296 / 256 % 256) as u8,
-        (time / 4294967296 % 256) as u8,
-        (time / 65536 / 256 % 256) as u8,
-        (time / 65536 % 256) as u8,
+        (time / 256 / 256 / 256 / 256 / 256 % 256) as u8,
+        (time / 256 / 256 / 256 / 256 % 256) as u8,
+        (time / 256 / 256 / 256 % 256) as u8,
+        (time / 256 / 256 % 256) as u8,
         (time / 256 % 256) as u8,
         (time % 256) as u8,
     ]
@@ -296,7 +291,7 @@ pub(crate) fn head_of(n: usize, kind: u8, call: u32, time: u64) -> [u8; 14]
 pub(crate) fn rest_at(f: Fixed) -> usize
     ensures { λ r. ⌜ (r ≡ 14 + f .len) × (r ≤ 269) ⌝ }
 {
-    14 + size(f.len)
+    14 + bytes::size(f.len)
 }
 
 // The bytes begin as the item is written.
@@ -306,14 +301,18 @@ fn starts(item: Item, f: Fixed, s: &[u8]) -> bool
     let time = item.time.0;
     let bytes = f.bytes;
     let head = head_of(s.len(), f.kind, item.call, time);
-    leading(&head, s) & leading(part_of(&bytes, 0, size(f.len)), from(s, 14))
+    bytes::leading(&head, s)
+        & bytes::leading(
+            bytes::part_of(&bytes, 0, bytes::size(f.len)),
+            bytes::from(s, 14),
+        )
 }
 
 fn rest_right(rest: Rest, t: &[u8]) -> bool
     ensures { λ r. ⌜ r ≡ restRight rest (now (t .entry)) ⌝ }
 {
     let n = t.len();
-    let digits = all_within(t, 0, 14);
+    let digits = bytes::all_within(t, 0, 14);
     match rest {
         Rest::Nothing => n == 0,
         Rest::Digits(count) => (n == count as usize) & digits,
@@ -338,7 +337,7 @@ pub fn read_item(s: &[u8]) -> ReadItem
     let body = item.body;
     let f = fixed_of(body);
     let at = rest_at(f);
-    if starts(item, f, s) & item_right(item, f, from(s, at)) {
+    if starts(item, f, s) & item_right(item, f, bytes::from(s, at)) {
         ReadItem::Item(item, at)
     } else {
         ReadItem::Refused(1)
@@ -352,7 +351,7 @@ pub fn item_at(s: &[u8], a: usize) -> ReadItem
     if s.len() < a {
         return ReadItem::Refused(1);
     }
-    let r = read_item(from(s, a));
+    let r = read_item(bytes::from(s, a));
     match r {
         ReadItem::Item(item, n) => ReadItem::Item(item, a + n),
         ReadItem::Refused(n) => ReadItem::Refused(n),
@@ -363,10 +362,10 @@ fn entry_of(e: &[u8]) -> Entry
     ensures { λ r. ⌜ r ≡ entryOf (now (e .entry)) ⌝ }
 {
     Entry {
-        point: at(e, 0),
-        leg: at(e, 1),
-        mode: at(e, 2),
-        timer: Seconds(be16(from(e, 3)) as u16),
+        point: bytes::at(e, 0),
+        leg: bytes::at(e, 1),
+        mode: bytes::at(e, 2),
+        timer: Seconds(bytes::number(bytes::from(e, 3), 2) as u16),
     }
 }
 
@@ -374,14 +373,14 @@ fn entry_of(e: &[u8]) -> Entry
 pub fn nth_entry(t: &[u8], i: u8) -> Entry
     ensures { λ r. ⌜ r ≡ entryOf (drop (i * 5) (now (t .entry))) ⌝ }
 {
-    entry_of(from(t, size(i) * 5))
+    entry_of(bytes::from(t, bytes::size(i) * 5))
 }
 
 // The entry at a place, and the place after it.
 pub fn entry_at(s: &[u8], a: usize) -> ReadEntry
     ensures { λ r. ⌜ r ≡ readEntry (now (s .entry)) a ⌝ }
 {
-    let e = from(s, a);
+    let e = bytes::from(s, a);
     if 5 <= e.len() {
         ReadEntry::Entry(entry_of(e), a + 5)
     } else {

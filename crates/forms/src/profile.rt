@@ -5,16 +5,10 @@ ghost use mathlib.Core.Bool.{_&&_};
 ghost use Prim.Native.Nat.{_+_, _≤_};
 ghost use lib.ListN.{length, getD, drop};
 ghost use lib.Dec.{leb, eqb};
-ghost use Rattle.forms.specs.Bytes.{bytes2, within, all, leads};
+ghost use Rattle.forms.specs.Bytes.{toBytes, within, all, leads};
 ghost use Rattle.forms.specs.Fields.{allRight};
 ghost use Rattle.forms.specs.Profile.{handlingNumber, criterionNumber, handlingOf, criterionOf, criterionAt, numberFields, senseRight, listAt, listEnd, numberAt, numbersAt, numbersEnd, viewAt, profileOf, readProfile, matches, someMatches};
-use crate::bytes::all_within;
-use crate::bytes::at;
-use crate::bytes::from;
-use crate::bytes::is_within;
-use crate::bytes::leading;
-use crate::bytes::part_of;
-use crate::bytes::size;
+use crate::bytes;
 use crate::units::Seconds;
 
 pub enum Handling {
@@ -93,7 +87,7 @@ fn criterion_of(enabling: bool, inhibiting: bool) -> Criterion
 fn criterion_at(s: &[u8], q: usize) -> Criterion
     ensures { λ r. ⌜ r ≡ criterionAt (now (s .entry)) q ⌝ }
 {
-    let n = at(s, q);
+    let n = bytes::at(s, q);
     criterion_of(n == 1, n == 2)
 }
 
@@ -111,15 +105,15 @@ fn sense_right(sense: Criterion, total: usize) -> bool
 pub fn list_at(s: &[u8], q: usize) -> &[u8]
     ensures { λ r. ⌜ now r ≡ listAt (now (s .entry)) q ⌝ }
 {
-    let t = from(s, q);
-    part_of(t, 1, size(at(t, 0)))
+    let t = bytes::from(s, q);
+    bytes::part_of(t, 1, bytes::size(bytes::at(t, 0)))
 }
 
 fn list_end(s: &[u8], q: usize) -> usize
     requires { ⌜ q ≤ 70000 ⌝ }
     ensures { λ r. ⌜ (r ≡ listEnd (now (s .entry)) q) × (r ≤ q + 256) ⌝ }
 {
-    q + 1 + size(at(s, q))
+    q + 1 + bytes::size(bytes::at(s, q))
 }
 
 // The stored number at place q is in range.
@@ -129,7 +123,9 @@ fn number_right(s: &[u8], q: usize) -> bool
 {
     let digits = list_at(s, q + 1);
     let n = digits.len();
-    is_within(at(s, q), 0, 127) & ((1 <= n) & (n <= 15)) & all_within(digits, 0, 14)
+    bytes::is_within(bytes::at(s, q), 0, 127)
+        & ((1 <= n) & (n <= 15))
+        & bytes::all_within(digits, 0, 14)
 }
 
 // The n stored numbers.
@@ -153,12 +149,12 @@ fn view_at(s: &[u8], l: usize) -> ProfileView
     ensures { λ r. ⌜ (r ≡ viewAt (now (s .entry)) l) × ((r .lengths ≤ 66000) × (r .services ≤ 66000)) ⌝ }
 {
     let v = list_end(s, l);
-    let handling = handling_of(at(s, 3) == 1);
+    let handling = handling_of(bytes::at(s, 3) == 1);
     let sense = criterion_at(s, 5);
     let forwarding = criterion_at(s, list_end(s, v));
     ProfileView {
         handling,
-        timer: Seconds(at(s, 4) as u16),
+        timer: Seconds(bytes::at(s, 4) as u16),
         sense,
         lengths: l,
         services: v,
@@ -169,7 +165,7 @@ fn view_at(s: &[u8], l: usize) -> ProfileView
 // The bytes are written as the profile is.
 fn is_written(s: &[u8], p: ProfileView) -> bool
     requires { ⌜ p .services ≤ 66000 ⌝ }
-    ensures { λ r. ⌜ r ≡ (((leads (bytes2 (length (now (s .entry))) ++ (1 ∷ [])) (now (s .entry)) && eqb (handlingNumber (p .handling)) (getD (now (s .entry)) 3 0)) && eqb (criterionNumber (p .sense)) (getD (now (s .entry)) 5 0)) && (eqb (criterionNumber (p .forwarding)) (getD (now (s .entry)) (listEnd (now (s .entry)) (p .services)) 0) && eqb (length (drop (listEnd (now (s .entry)) (p .services)) (now (s .entry)))) 1)) ⌝ }
+    ensures { λ r. ⌜ r ≡ (((leads (toBytes 2 (length (now (s .entry))) ++ (1 ∷ [])) (now (s .entry)) && eqb (handlingNumber (p .handling)) (getD (now (s .entry)) 3 0)) && eqb (criterionNumber (p .sense)) (getD (now (s .entry)) 5 0)) && (eqb (criterionNumber (p .forwarding)) (getD (now (s .entry)) (listEnd (now (s .entry)) (p .services)) 0) && eqb (length (drop (listEnd (now (s .entry)) (p .services)) (now (s .entry)))) 1)) ⌝ }
 {
     let handling = p.handling;
     let sense = p.sense;
@@ -178,10 +174,10 @@ fn is_written(s: &[u8], p: ProfileView) -> bool
     let f = list_end(s, v);
     let n = s.len();
     let start = [(n / 256 % 256) as u8, (n % 256) as u8, 1];
-    leading(&start, s)
-        & (handling_number(handling) == at(s, 3))
-        & (criterion_number(sense) == at(s, 5))
-        & ((criterion_number(forwarding) == at(s, f)) & (from(s, f).len() == 1))
+    bytes::leading(&start, s)
+        & (handling_number(handling) == bytes::at(s, 3))
+        & (criterion_number(sense) == bytes::at(s, 5))
+        & ((criterion_number(forwarding) == bytes::at(s, f)) & (bytes::from(s, f).len() == 1))
 }
 
 // The single fields and the lists are in range; so are the numbers, where `numbers` says so.
@@ -192,21 +188,21 @@ fn is_right(s: &[u8], p: ProfileView, numbers: bool) -> bool
     let sense = p.sense;
     let lengths = list_at(s, p.lengths);
     let services = list_at(s, p.services);
-    let n = at(s, 6);
+    let n = bytes::at(s, 6);
     ((10 <= timer) & (timer <= 180))
         & (n <= 10)
         & numbers
         & (lengths.len() <= 3)
-        & all_within(lengths, 1, 15)
+        & bytes::all_within(lengths, 1, 15)
         & (services.len() <= 5)
-        & sense_right(sense, size(n) + lengths.len())
+        & sense_right(sense, bytes::size(n) + lengths.len())
 }
 
 // The profile that the bytes are, or refusal 2.
 pub fn read_profile(s: &[u8]) -> ReadProfile
     ensures { λ r. ⌜ r ≡ readProfile (now (s .entry)) ⌝ }
 {
-    let w = walk_numbers(s, at(s, 6));
+    let w = walk_numbers(s, bytes::at(s, 6));
     let p = view_at(s, w.end);
     if is_written(s, p) & is_right(s, p, w.right) {
         ReadProfile::Profile(p)
@@ -219,14 +215,14 @@ fn match_at(s: &[u8], q: usize, nature: u8, dialled: &[u8]) -> bool
     requires { ⌜ q ≤ 70000 ⌝ }
     ensures { λ r. ⌜ r ≡ matches (numberAt (now (s .entry)) q) nature (now (dialled .entry)) ⌝ }
 {
-    (at(s, q) == nature) & leading(list_at(s, q + 1), dialled)
+    (bytes::at(s, q) == nature) & bytes::leading(list_at(s, q + 1), dialled)
 }
 
 // Some stored number of the profile matches the dialled one.
 pub fn some_match(s: &[u8], nature: u8, dialled: &[u8]) -> bool
     ensures { λ r. ⌜ r ≡ someMatches (profileOf (now (s .entry)) .numbers) nature (now (dialled .entry)) ⌝ }
 {
-    let mut left = at(s, 6);
+    let mut left = bytes::at(s, 6);
     let mut q: usize = 7;
     while 0 < left {
         if match_at(s, q, nature, dialled) {

@@ -6,9 +6,7 @@ ghost use lib.ListN.{length};
 ghost use lib.Seq.{sets};
 ghost use Rattle.forms.specs.Item.{itemBytes, formOf, fixedOf};
 ghost use Rattle.forms.specs.Write.{itemLength, written, after};
-use crate::bytes::copy_in;
-use crate::bytes::part_of;
-use crate::bytes::size;
+use crate::bytes;
 use crate::item::Fixed;
 use crate::item::Item;
 use crate::item::fixed_of;
@@ -26,9 +24,9 @@ fn put_parts(d: &mut [u8], a: &[u8], b: &[u8], t: &[u8])
     requires { ⌜ length (now a) + length (now b) + length (now t) ≤ length (now d) ⌝ }
     ensures { λ _. ⌜ now (d .exit) ≡ sets (now (d .entry)) 0 (now (a .entry) ++ now (b .entry) ++ now (t .entry)) ⌝ }
 {
-    copy_in(d, 0, a);
-    copy_in(d, a.len(), b);
-    copy_in(d, a.len() + b.len(), t);
+    bytes::copy_in(d, 0, a);
+    bytes::copy_in(d, a.len(), b);
+    bytes::copy_in(d, a.len() + b.len(), t);
 }
 
 // Stores the item's n bytes at the start of `d`; f is the item's row of the table of kinds.
@@ -39,7 +37,7 @@ fn put_item(d: &mut [u8], item: Item, f: Fixed, n: usize, t: &[u8])
     let time = item.time.0;
     let bytes = f.bytes;
     let head = head_of(n, f.kind, item.call, time);
-    put_parts(d, &head, part_of(&bytes, 0, size(f.len)), t);
+    put_parts(d, &head, bytes::part_of(&bytes, 0, bytes::size(f.len)), t);
 }
 
 // Writes the item, whose digits or entries are `t`, at the start of `d`. Refusal 1 where a value is out of range or `d` too short.
