@@ -1,42 +1,66 @@
 -- Laws of the item's written form, for the proofs of reading and writing and for the theorems.
-use Prim.Native.Nat.{ℕ, zero, suc, _+_, _≤_, _<_}
+use Prim.Native.Nat.{ℕ, zero, suc, _+_, _*_, _≤_}
 use mathlib.Core.Path.{_≡_, refl, sym, ap, _∙_}
 use mathlib.Core.List.{List, [], _∷_, _++_}
 use mathlib.Core.Bool.{Bool, true, false, _&&_, cond, and-assoc}
 use native.Mathlib.Omega.{arith}
 use lib.ListN.{length, take, drop, length-append}
 use lib.Seq.{drop-drop}
-use lib.Dec.{ltb, lit≤}
-use Rattle.forms.specs.Bytes.{toBytes, leads, same}
+use lib.Dec.{leb, ltb, eqb, lit≤}
+use borrow.Author.Tests.{leb-true, eqb-true}
+use Rattle.forms.specs.Bytes.{toBytes, within, leads, same}
 use Rattle.forms.specs.Units.{clockEnd}
-use Rattle.forms.specs.Fields.{framed}
+use Rattle.forms.specs.Fields.{allRight, framed}
 use Rattle.forms.specs.Item.{formOf, fieldBytes, restRight, itemBytes, itemRight, restAt, bodyFrom, bodyOf, itemOf, isItem, readItem, headOf, pad, fixedOf}
 use Rattle.forms.specs.declared.item.Body.{Body}
 use Rattle.forms.specs.declared.item.Body.the-variants as B
+use Rattle.forms.specs.declared.item.Rest.{Rest}
+use Rattle.forms.specs.declared.item.Rest.the-variants.{Nothing, Digits, Entries}
 use Rattle.forms.specs.declared.item.Fixed.{Fixed}
 use Rattle.forms.specs.declared.item.Item.{Item}
 use Rattle.forms.specs.declared.item.ReadItem.the-variants as R
-use Rattle.forms.proofs.ByteLaws.{leads-both, same-rest, framed-same}
+use Rattle.forms.proofs.ByteLaws.{and-left, and-right, leads-both, same-rest, framed-same}
 
--- the fields of every kind fit their five places
-pub fields-fit : (b : Body) → length (fieldBytes b) ≤ 5
-fields-fit (B.Setup n s f c) = lit≤ tt
-fields-fit (B.RouteFailure c) = lit≤ tt
-fields-fit (B.Busy c) = lit≤ tt
-fields-fit B.NoAnswer = lit≤ tt
-fields-fit B.Seized = lit≤ tt
-fields-fit B.Answer = lit≤ tt
-fields-fit (B.MidCall d) = lit≤ tt
-fields-fit B.Moved = lit≤ tt
-fields-fit (B.Clear l c) = lit≤ tt
-fields-fit (B.PeriodOver l) = lit≤ tt
-fields-fit (B.RequestReport c) = lit≤ tt
-fields-fit B.Continue = lit≤ tt
-fields-fit (B.Connect n c) = lit≤ tt
-fields-fit B.Release = lit≤ tt
-fields-fit (B.ApplyCharging l p) = lit≤ tt
-fields-fit B.ActivityTest = lit≤ tt
-fields-fit B.Abort = lit≤ tt
+-- how many bytes follow the fields
+abbrev pub followed : Rest → ℕ
+followed Nothing = 0
+followed (Digits c) = c
+followed (Entries c) = c * 5
+
+-- the fields of every kind fit their five places; in range, with what follows they are at most 51 bytes
+abbrev Small : Body → Type 0
+Small b = (length (fieldBytes b) ≤ 5) × (allRight (formOf b .fields) ≡ true → length (fieldBytes b) + followed (formOf b .rest) ≤ 51)
+
+small : (b : Body) → Small b
+small (B.Setup n s f c) = (lit≤ tt, λ h. omega (arith, leb-true c 15 (and-right (leb 1 c) _ (and-left (within 1 15 c) true (and-right (within 0 127 n) _ h)))))
+small (B.RouteFailure c) = (lit≤ tt, λ h. lit≤ tt)
+small (B.Busy c) = (lit≤ tt, λ h. lit≤ tt)
+small B.NoAnswer = (lit≤ tt, λ h. lit≤ tt)
+small B.Seized = (lit≤ tt, λ h. lit≤ tt)
+small B.Answer = (lit≤ tt, λ h. lit≤ tt)
+small (B.MidCall d) = (lit≤ tt, λ h. lit≤ tt)
+small B.Moved = (lit≤ tt, λ h. lit≤ tt)
+small (B.Clear l c) = (lit≤ tt, λ h. lit≤ tt)
+small (B.PeriodOver l) = (lit≤ tt, λ h. lit≤ tt)
+small (B.RequestReport c) = (lit≤ tt, λ h. omega (arith, leb-true c 10 (and-right (leb 1 c) _ (and-left (within 1 10 c) true h))))
+small B.Continue = (lit≤ tt, λ h. lit≤ tt)
+small (B.Connect n c) = (lit≤ tt, λ h. omega (arith, leb-true c 15 (and-right (leb 1 c) _ (and-left (within 1 15 c) true (and-right (within 0 127 n) _ h)))))
+small B.Release = (lit≤ tt, λ h. lit≤ tt)
+small (B.ApplyCharging l p) = (lit≤ tt, λ h. lit≤ tt)
+small B.ActivityTest = (lit≤ tt, λ h. lit≤ tt)
+small B.Abort = (lit≤ tt, λ h. lit≤ tt)
+
+pub rest-size : (r : Rest) (t : List ℕ) → restRight r t ≡ true → length t ≡ followed r
+rest-size Nothing t h = eqb-true _ _ h
+rest-size (Digits c) t h = eqb-true _ _ (and-left (eqb (length t) c) _ h)
+rest-size (Entries c) t h = eqb-true _ _ h
+
+pub item-size : (i : Item) (t : List ℕ) → itemRight i t ≡ true → length (fieldBytes (i .body)) + length t ≤ 51
+unfolding itemRight
+item-size i t h =
+    let f = formOf (i .body) in
+    let r = and-left (allRight (f .fields) && restRight (f .rest) t) (ltb (i .time .0) clockEnd) h in
+    rw (rest-size (f .rest) t (and-right (allRight (f .fields)) _ r)) (small (i .body) .1 (and-left (allRight (f .fields)) (restRight (f .rest) t) r))
 
 pad-back : (n : ℕ) (l : List ℕ) → length l ≤ n → take (length l) (pad n l) ≡ l
 pad-back zero [] h = refl
@@ -45,7 +69,7 @@ pad-back (suc n) [] h = refl
 pad-back (suc n) (x ∷ l) h = ap (λ (r : List ℕ). x ∷ r) (pad-back n l (omega arith))
 
 pub fields-back : (b : Body) → take (fixedOf (formOf b) .len) (fixedOf (formOf b) .bytes) ≡ fieldBytes b
-fields-back b = pad-back 5 (fieldBytes b) (fields-fit b)
+fields-back b = pad-back 5 (fieldBytes b) (small b .0)
 
 -- the 14 bytes before the fields f, in a form of n bytes
 module _ (k c t : ℕ) (f : List ℕ) where
@@ -86,5 +110,5 @@ unfolding readItem restAt
 place-small s i n h = go (isItem (itemOf s) s) h
   where
     go : (b : Bool) → cond b (R.Item (itemOf s) (14 + length (fieldBytes (itemOf s .body)))) (R.Refused 1) ≡ R.Item i n → n ≤ 19
-    go true h = let q : 14 + length (fieldBytes (itemOf s .body)) ≡ n = cc in omega (arith, fields-fit (itemOf s .body))
+    go true h = let q : 14 + length (fieldBytes (itemOf s .body)) ≡ n = cc in omega (arith, small (itemOf s .body) .0)
     go false h = let z : _≡_ {A = ℕ} 0 1 = cc in absurd (omega arith)
