@@ -3,3 +3,5 @@ pub mod ItemLaws
 pub mod WriteLaws
 pub mod ProfileLaws
 pub mod Walks
+pub mod ItemTheorems
+pub mod ProfileTheorems
