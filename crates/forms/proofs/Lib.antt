@@ -5,3 +5,4 @@ pub mod ProfileLaws
 pub mod Walks
 pub mod ItemTheorems
 pub mod ProfileTheorems
+pub mod Cases
