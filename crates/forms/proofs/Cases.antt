@@ -3,9 +3,8 @@
 use Prim.Native.Nat.{ℕ}
 use mathlib.Core.Path.{_≡_, refl}
 use mathlib.Core.List.{List, [], _∷_, _++_, map}
-use mathlib.Core.Bool.{Bool}
 use lib.ListN.{replicate}
-use Rattle.forms.specs.Bytes.{all, leads, same}
+use Rattle.forms.specs.Bytes.{all, same}
 use Rattle.forms.specs.Item.{itemBytes, itemRight, restAt, bodyFrom, bodyOf, itemOf, isItem, readItem}
 use Rattle.forms.specs.Profile.{fieldsOf, profileBytes, profileRight, numbersAt, numbersEnd, viewAt, profileOf, isProfile, readProfile}
 use Rattle.forms.specs.declared.item.Leg.the-variants.{Two}
@@ -13,7 +12,6 @@ use Rattle.forms.specs.declared.item.Body.{Body}
 use Rattle.forms.specs.declared.item.Body.the-variants as B
 use Rattle.forms.specs.declared.item.ReadItem.{ReadItem}
 use Rattle.forms.specs.declared.item.ReadItem.the-variants as R
-use Rattle.forms.specs.declared.profile.ReadProfile.{ReadProfile}
 use Rattle.forms.specs.declared.profile.ReadProfile.the-variants as P
 
 pub record Case : Type 0 where

@@ -2,18 +2,18 @@
 use Prim.Native.Nat.{ℕ, zero, suc, _+_, _-_, _≤_, _<_}
 use mathlib.Core.Path.{_≡_, refl, sym, ap, _∙_}
 use mathlib.Core.List.{List, [], _∷_, _++_, append-assoc}
-use mathlib.Core.Bool.{Bool, true, false, _&&_, and-true, and-false, and-assoc}
+use mathlib.Core.Bool.{Bool, false, _&&_, and-true, and-false, and-assoc}
 use mathlib.Core.Logic.{⊎-elim}
 use native.Mathlib.Numerals.{add-one, sub-one}
 use native.Mathlib.Nat.{add-zero, le-of-lt}
 use native.Mathlib.Omega.{arith}
 use borrow.Author.Tests.{eq-eqb, ne-eqb}
-use lib.ListN.{length, getD, take, drop, drop-of-length-le, length-drop}
+use lib.ListN.{length, getD, take, drop, drop-of-length-le}
 use lib.Seq.{drop-cons, drop-drop, getD-drop, length-take-le, take-all}
 use lib.Dec.{leb, eqb}
 use Rattle.forms.specs.Bytes.{toBytes, within, part, all, leads, same}
 use Rattle.forms.specs.Fields.{Field, bytesIn, allRight}
-use Rattle.forms.specs.Profile.{handlingNumber, criterionNumber, count, numberFields, listFields, fieldsOf, profileBytes, senseRight, profileRight, listAt, listEnd, numberAt, numbersAt, numbersEnd, viewAt, viewOf, profileOf, isProfile, matches, someMatches}
+use Rattle.forms.specs.Profile.{handlingNumber, criterionNumber, count, numberFields, listFields, fieldsOf, profileBytes, senseRight, profileRight, listAt, listEnd, numberAt, numbersAt, numbersEnd, viewAt, viewOf, profileOf}
 use Rattle.forms.specs.declared.profile.ProfileView.{ProfileView}
 use Rattle.forms.proofs.ByteLaws.{below-or-past, framed-same}
 
@@ -103,7 +103,7 @@ module _ (s : List ℕ) (p : ProfileView) (e : p ≡ viewOf s) where
   abbrev n : ℕ
   n = getD s 6 0
 
-  profile-same : same (profileBytes (profileOf s)) s
+  pub profile-same : same (profileBytes (profileOf s)) s
       ≡ (((leads (toBytes 2 (length s) ++ (1 ∷ [])) s && eqb (handlingNumber (p .handling)) (getD s 3 0)) && eqb (criterionNumber (p .sense)) (getD s 5 0))
       && (eqb (criterionNumber (p .forwarding)) (getD s (listEnd s (p .services)) 0) && eqb (length (drop (listEnd s (p .services)) s)) 1))
   unfolding profileBytes fieldsOf profileOf viewAt same
@@ -122,19 +122,11 @@ module _ (s : List ℕ) (p : ProfileView) (e : p ≡ viewOf s) where
       (rw (cell s (getD s 4 0 ∷ c ∷ n ∷ w₁) refl 3 h, cell s (c ∷ n ∷ w₁) refl 4 (getD s 4 0), eq-eqb (getD s 4 0) (getD s 4 0) refl, cell s (n ∷ w₁) refl 5 c, cell s w₁ (same-none (bytesIn fs) w₂ refl) 6 n, eq-eqb n n refl)
       (rw (numbers-same s w₂ refl n 7, list-same s w₃ refl l, list-same s w₄ refl v, last-same (criterionNumber (profileOf s .forwarding)) s f) (simp and-assoc)))
 
-  profile-right : profileRight (profileOf s)
+  pub profile-right : profileRight (profileOf s)
       ≡ ((within 10 180 (p .timer .0) && leb n 10 && allRight (numberFields (numbersAt n s 7)) && leb (length (listAt s (p .lengths))) 3 && all (within 1 15) (listAt s (p .lengths)) && leb (length (listAt s (p .services))) 5)
       && senseRight (p .sense) (n + length (listAt s (p .lengths))))
   unfolding profileRight fieldsOf profileOf viewAt
   profile-right = rw (e, rights-both (numberFields (numbersAt n s 7)) (listFields (profileOf s)), counts n s 7) (simp (and-assoc, and-true))
-
-  pub is-profile : (m : ℕ) → m ≡ n → (numbers : Bool) → numbers ≡ allRight (numberFields (numbersAt m s 7)) → isProfile (profileOf s) s
-      ≡ ((((leads (toBytes 2 (length s) ++ (1 ∷ [])) s && eqb (handlingNumber (p .handling)) (getD s 3 0)) && eqb (criterionNumber (p .sense)) (getD s 5 0))
-      && (eqb (criterionNumber (p .forwarding)) (getD s (listEnd s (p .services)) 0) && eqb (length (drop (listEnd s (p .services)) s)) 1))
-      && ((within 10 180 (p .timer .0) && leb n 10 && numbers && leb (length (listAt s (p .lengths))) 3 && all (within 1 15) (listAt s (p .lengths)) && leb (length (listAt s (p .services))) 5)
-      && senseRight (p .sense) (n + length (listAt s (p .lengths)))))
-  unfolding isProfile
-  is-profile m h numbers g = rw (g, h, profile-same, profile-right)
 
 -- ---- the loops over the numbers: one more, and none left
 

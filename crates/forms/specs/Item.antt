@@ -1,7 +1,7 @@
 -- Document 01, Forms: items. `formOf` is its table of kinds. Reading has no rules of its own: bytes read as the item whose written form they are.
 use Prim.Native.Nat.{ℕ, zero, suc, _+_, _*_}
 use mathlib.Core.List.{List, [], _∷_, _++_}
-use mathlib.Core.Bool.{Bool, true, _&&_, cond}
+use mathlib.Core.Bool.{Bool, _&&_, cond}
 use lib.ListN.{length, getD, drop}
 use lib.Dec.{ltb, leb, eqb}
 use Rattle.forms.specs.Bytes.{toBytes, fromBytes, all, same}
@@ -69,7 +69,7 @@ itemBytes i t = framed (formOf (i .body) .kind ∷ (toBytes 4 (i .call) ++ (toBy
 unfoldable pub itemRight : Item → List ℕ → Bool
 itemRight i t = (allRight (formOf (i .body) .fields) && restRight (formOf (i .body) .rest) t) && ltb (i .time .0) clockEnd
 
--- where the digits or the entries begin, and these
+-- where the digits or the entries begin
 unfoldable pub restAt : Body → ℕ
 restAt b = 14 + length (fieldBytes b)
 

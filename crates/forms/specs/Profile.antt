@@ -2,9 +2,9 @@
 use Prim.Native.Nat.{ℕ, zero, suc, _+_}
 use mathlib.Core.List.{List, [], _∷_, _++_}
 use mathlib.Core.Bool.{Bool, true, false, _&&_, _||_, cond}
-use lib.ListN.{length, getD, drop}
+use lib.ListN.{length, getD}
 use lib.Dec.{leb, eqb}
-use Rattle.forms.specs.Bytes.{within, part, all, contains, leads, same}
+use Rattle.forms.specs.Bytes.{within, part, all, leads, same}
 use Rattle.forms.specs.Fields.{Field, byte, run, nature, digitCount, digits, bytesIn, allRight, framed}
 use Rattle.forms.specs.declared.profile.Handling.{Handling}
 use Rattle.forms.specs.declared.profile.Handling.the-variants as H
@@ -46,16 +46,16 @@ criterionNumber C.Inhibiting = 2
 abbrev pub upTo : ℕ → ℕ → Field
 upTo n count = byte count (leb count n)
 
--- "each nature, digit count and digits as in Setup"
 abbrev pub count : List Number → ℕ
 count [] = 0
 count (n ∷ ns) = suc (count ns)
 
+-- "each nature, digit count and digits as in Setup"
 abbrev pub numberFields : List Number → List Field
 numberFields [] = []
 numberFields (n ∷ ns) = nature (n .nature) ∷ digitCount (length (n .digits)) ∷ digits (n .digits) ∷ numberFields ns
 
--- "default handling, default timer 10..180 seconds, number sense, number count 0..10, each …; length count 0..3, each 1..15; service count 0..5, each one byte; forwarding"
+-- "length count 0..3, each 1..15; service count 0..5, each one byte; forwarding"
 abbrev pub listFields : Profile → List Field
 listFields p =
     upTo 3 (length (p .lengths)) ∷ run (p .lengths) (all (within 1 15) (p .lengths))
@@ -63,6 +63,7 @@ listFields p =
     ∷ byte (criterionNumber (p .forwarding)) true
     ∷ []
 
+-- "default handling, default timer 10..180 seconds, number sense, number count 0..10, each …", and those
 unfoldable pub fieldsOf : Profile → List Field
 fieldsOf p =
     byte (handlingNumber (p .handling)) true

@@ -74,14 +74,14 @@ pub enum ReadEntry {
 }
 
 // What follows the fields.
-pub enum Rest {
+pub(crate) enum Rest {
     Nothing,
     Digits(u8),
     Entries(u8),
 }
 
 // A row of the table of kinds: the kind, the fields' bytes (the first `len`), whether the fields are in range, and what follows.
-pub struct Fixed {
+pub(crate) struct Fixed {
     pub kind: u8,
     pub len: u8,
     pub bytes: [u8; 5],
@@ -89,6 +89,7 @@ pub struct Fixed {
     pub rest: Rest,
 }
 
+// The rows: any; without a field; with one and nothing after it.
 fn row(kind: u8, len: u8, bytes: [u8; 5], right: bool, rest: Rest) -> Fixed
     ensures { λ r. ⌜ r ≡ record { kind = kind; len = len; bytes = bytes; right = right; rest = rest } ⌝ }
 {
@@ -107,25 +108,13 @@ fn no_field(kind: u8) -> Fixed
     row(kind, 0, [0, 0, 0, 0, 0], true, Rest::Nothing)
 }
 
-fn one_field(kind: u8, a: u8, right: bool, rest: Rest) -> Fixed
-    ensures { λ r. ⌜ r ≡ fixed kind (a ∷ []) right rest ⌝ }
+fn one_field(kind: u8, a: u8, right: bool) -> Fixed
+    ensures { λ r. ⌜ r ≡ fixed kind (a ∷ []) right Rest.Nothing ⌝ }
 {
-    row(kind, 1, [a, 0, 0, 0, 0], right, rest)
+    row(kind, 1, [a, 0, 0, 0, 0], right, Rest::Nothing)
 }
 
-fn two_fields(kind: u8, a: u8, b: u8, right: bool, rest: Rest) -> Fixed
-    ensures { λ r. ⌜ r ≡ fixed kind (a ∷ b ∷ []) right rest ⌝ }
-{
-    row(kind, 2, [a, b, 0, 0, 0], right, rest)
-}
-
-fn four_fields(kind: u8, a: u8, b: u8, c: u8, d: u8, right: bool, rest: Rest) -> Fixed
-    ensures { λ r. ⌜ r ≡ fixed kind (a ∷ b ∷ c ∷ d ∷ []) right rest ⌝ }
-{
-    row(kind, 4, [a, b, c, d, 0], right, rest)
-}
-
-// A byte and a field of four bytes.
+// A byte, a field of four bytes, and nothing after them.
 fn long_field(kind: u8, a: u8, n: u64, right: bool) -> Fixed
     ensures { λ r. ⌜ r ≡ fixed kind (a ∷ toBytes 4 n) right Rest.Nothing ⌝ }
 {
@@ -160,46 +149,40 @@ pub(crate) fn fixed_of(body: Body) -> Fixed
             service,
             forwarded,
             count,
-        } => four_fields(
+        } => row(
             1,
-            nature,
-            service,
-            forwarded as u8,
-            count,
+            4,
+            [nature, service, forwarded as u8, count, 0],
             bytes::is_within(nature, 0, 127) & bytes::is_within(count, 1, 15),
             Rest::Digits(count),
         ),
-        Body::RouteFailure(cause) => one_field(
-            2,
-            cause,
-            bytes::is_within(cause, 0, 127),
-            Rest::Nothing,
-        ),
-        Body::Busy(cause) => one_field(3, cause, bytes::is_within(cause, 0, 127), Rest::Nothing),
+        Body::RouteFailure(cause) => one_field(2, cause, bytes::is_within(cause, 0, 127)),
+        Body::Busy(cause) => one_field(3, cause, bytes::is_within(cause, 0, 127)),
         Body::NoAnswer => no_field(4),
         Body::Seized => no_field(5),
         Body::Answer => no_field(6),
-        Body::MidCall(digit) => one_field(7, digit, bytes::is_within(digit, 0, 14), Rest::Nothing),
+        Body::MidCall(digit) => one_field(7, digit, bytes::is_within(digit, 0, 14)),
         Body::Moved => no_field(8),
-        Body::Clear(leg, cause) => two_fields(
+        Body::Clear(leg, cause) => row(
             9,
-            leg_number(leg),
-            cause,
+            2,
+            [leg_number(leg), cause, 0, 0, 0],
             bytes::is_within(cause, 0, 127),
             Rest::Nothing,
         ),
-        Body::PeriodOver(leg) => one_field(10, leg_number(leg), true, Rest::Nothing),
-        Body::RequestReport(count) => one_field(
+        Body::PeriodOver(leg) => one_field(10, leg_number(leg), true),
+        Body::RequestReport(count) => row(
             20,
-            count,
+            1,
+            [count, 0, 0, 0, 0],
             bytes::is_within(count, 1, 10),
             Rest::Entries(count),
         ),
         Body::Continue => no_field(21),
-        Body::Connect { nature, count } => two_fields(
+        Body::Connect { nature, count } => row(
             22,
-            nature,
-            count,
+            2,
+            [nature, count, 0, 0, 0],
             bytes::is_within(nature, 0, 127) & bytes::is_within(count, 1, 15),
             Rest::Digits(count),
         ),
@@ -244,6 +227,7 @@ fn body_from(n: u8, b0: u8, b1: u8, b2: u8, b3: u8, leg: Leg, p: u64) -> Body
     }
 }
 
+// The values at their places, whatever the bytes are.
 fn item_of(s: &[u8]) -> Item
     ensures { λ r. ⌜ r ≡ itemOf (now (s .entry)) ⌝ }
 {
@@ -312,10 +296,9 @@ fn rest_right(rest: Rest, t: &[u8]) -> bool
     ensures { λ r. ⌜ r ≡ restRight rest (now (t .entry)) ⌝ }
 {
     let n = t.len();
-    let digits = bytes::all_within(t, 0, 14);
     match rest {
         Rest::Nothing => n == 0,
-        Rest::Digits(count) => (n == count as usize) & digits,
+        Rest::Digits(count) => (n == count as usize) & bytes::all_within(t, 0, 14),
         Rest::Entries(count) => n == count as usize * 5,
     }
 }

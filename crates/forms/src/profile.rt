@@ -38,7 +38,7 @@ pub enum ReadProfile {
 }
 
 // Stored numbers: whether all are in range, and the place after them.
-pub struct Numbers {
+pub(crate) struct Numbers {
     pub right: bool,
     pub end: usize,
 }

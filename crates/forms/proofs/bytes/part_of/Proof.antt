@@ -1,7 +1,7 @@
 -- `forms::bytes::part_of` meets its contract.
 use borrow.Author.Needs.{needs}
 use native.Mathlib.Nat.{le-of-lt}
-use mathlib.Core.Path.{sym, _∙_}
+use mathlib.Core.Path.{sym}
 use lib.Seq.{length-take-le, take-all}
 use Rattle.forms.proofs.bytes.part_of.Statement.{statement}
 use Rattle.forms.proofs.bytes.part_of.Tie as tie

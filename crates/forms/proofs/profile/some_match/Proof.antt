@@ -1,8 +1,7 @@
 -- `forms::profile::some_match` meets its contract: the numbers left decide the answer.
 use borrow.Author.Needs.{needs}
 use Prim.Native.Nat.{_≤_, _+_, _*_}
-use mathlib.Core.Path.{_≡_, sym, _∙_}
-use lib.ListN.{getD}
+use mathlib.Core.Path.{_≡_}
 use Rattle.forms.specs.Profile.{numbersAt, profileOf, someMatches}
 use Rattle.forms.proofs.ProfileLaws.{numbers-next, numbers-none}
 use Rattle.forms.proofs.profile.some_match.Statement.{statement}
