@@ -7,13 +7,13 @@ use mathlib.Core.Logic.{⊎-elim}
 use native.Mathlib.Numerals.{add-one, sub-one}
 use native.Mathlib.Nat.{add-zero, le-of-lt}
 use native.Mathlib.Omega.{arith}
-use borrow.Author.Tests.{eq-eqb, ne-eqb}
+use borrow.Author.Tests.{eq-eqb, ne-eqb, lt-leb}
 use lib.ListN.{length, getD, take, drop, drop-of-length-le}
 use lib.Seq.{drop-cons, drop-drop, getD-drop, length-take-le, take-all}
 use lib.Dec.{leb, eqb}
 use Rattle.forms.specs.Bytes.{toBytes, within, part, all, leads, same}
 use Rattle.forms.specs.Fields.{Field, bytesIn, allRight}
-use Rattle.forms.specs.Profile.{handlingNumber, criterionNumber, count, numberFields, listFields, fieldsOf, profileBytes, senseRight, profileRight, listAt, listEnd, numberAt, numbersAt, numbersEnd, viewAt, viewOf, profileOf}
+use Rattle.forms.specs.Profile.{handlingNumber, criterionNumber, count, numberFields, listFields, fieldsOf, profileBytes, senseRight, profileRight, handlingOf, criterionOf, listAt, listEnd, numberAt, numbersAt, numbersEnd, viewAt, viewOf, profileOf}
 use Rattle.forms.specs.declared.profile.ProfileView.{ProfileView}
 use Rattle.forms.proofs.ByteLaws.{below-or-past, framed-same}
 
@@ -97,6 +97,22 @@ last-same x s q = rw (← head-at s q) (go (drop q s))
     go (y ∷ []) = refl
     go (y ∷ z ∷ r) = rw (ne-eqb (suc (suc (length r))) 1 (λ (h : suc (suc (length r)) ≡ 1). omega arith), and-false)
 
+-- ---- a choice is written as it was read where its byte is in range
+
+apart : (m n : ℕ) → n < m → eqb m n ≡ false
+apart m n l = ne-eqb m n (λ (h : m ≡ n). omega arith)
+
+handling-is : (n : ℕ) → eqb (handlingNumber (handlingOf (eqb n 1))) n ≡ leb n 1
+handling-is zero = refl
+handling-is (suc zero) = refl
+handling-is (suc (suc n)) = let k = suc (suc n) in rw (apart k 1 (omega arith), ne-eqb 0 k (λ (h : 0 ≡ k). omega arith), lt-leb k 1 (omega arith))
+
+criterion-is : (n : ℕ) → eqb (criterionNumber (criterionOf (eqb n 1) (eqb n 2))) n ≡ leb n 2
+criterion-is zero = refl
+criterion-is (suc zero) = refl
+criterion-is (suc (suc zero)) = refl
+criterion-is (suc (suc (suc n))) = let k = suc (suc (suc n)) in rw (apart k 1 (omega arith), apart k 2 (omega arith), ne-eqb 0 k (λ (h : 0 ≡ k). omega arith), lt-leb k 2 (omega arith))
+
 -- ---- what the code tests is what makes the bytes a profile
 
 module _ (s : List ℕ) (p : ProfileView) (e : p ≡ viewOf s) where
@@ -104,8 +120,7 @@ module _ (s : List ℕ) (p : ProfileView) (e : p ≡ viewOf s) where
   n = getD s 6 0
 
   pub profile-same : same (profileBytes (profileOf s)) s
-      ≡ (((leads (toBytes 2 (length s) ++ (1 ∷ [])) s && eqb (handlingNumber (p .handling)) (getD s 3 0)) && eqb (criterionNumber (p .sense)) (getD s 5 0))
-      && (eqb (criterionNumber (p .forwarding)) (getD s (listEnd s (p .services)) 0) && eqb (length (drop (listEnd s (p .services)) s)) 1))
+      ≡ (leads (toBytes 2 (length s) ++ (1 ∷ [])) s && leb (getD s 3 0) 1 && leb (getD s 5 0) 2 && leb (getD s (listEnd s (p .services)) 0) 2 && eqb (length (drop (listEnd s (p .services)) s)) 1)
   unfolding profileBytes fieldsOf profileOf viewAt same
   profile-same =
       let l = numbersEnd n s 7 in
@@ -120,7 +135,7 @@ module _ (s : List ℕ) (p : ProfileView) (e : p ≡ viewOf s) where
       let w₁ = bytesIn fs ++ w₂ in
       rw (e, framed-same (bytesIn (fieldsOf (profileOf s))) s, bytes-both fs (listFields (profileOf s)), counts n s 7)
       (rw (cell s (getD s 4 0 ∷ c ∷ n ∷ w₁) refl 3 h, cell s (c ∷ n ∷ w₁) refl 4 (getD s 4 0), eq-eqb (getD s 4 0) (getD s 4 0) refl, cell s (n ∷ w₁) refl 5 c, cell s w₁ (same-none (bytesIn fs) w₂ refl) 6 n, eq-eqb n n refl)
-      (rw (numbers-same s w₂ refl n 7, list-same s w₃ refl l, list-same s w₄ refl v, last-same (criterionNumber (profileOf s .forwarding)) s f) (simp and-assoc)))
+      (rw (numbers-same s w₂ refl n 7, list-same s w₃ refl l, list-same s w₄ refl v, last-same (criterionNumber (profileOf s .forwarding)) s f, handling-is (getD s 3 0), criterion-is (getD s 5 0), criterion-is (getD s f 0)) (simp and-assoc)))
 
   pub profile-right : profileRight (profileOf s)
       ≡ ((within 10 180 (p .timer .0) && leb n 10 && allRight (numberFields (numbersAt n s 7)) && leb (length (listAt s (p .lengths))) 3 && all (within 1 15) (listAt s (p .lengths)) && leb (length (listAt s (p .services))) 5)

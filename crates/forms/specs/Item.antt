@@ -88,21 +88,8 @@ unfoldable pub bodyFrom : ℕ → ℕ → ℕ → ℕ → ℕ → Leg → ℕ �
 bodyFrom n b0 b1 b2 b3 l p =
     choose n
     (B.Setup b0 b1 (eqb b2 1) b3
-    ∷ B.RouteFailure b0
-    ∷ B.Busy b0
-    ∷ B.NoAnswer
-    ∷ B.Seized
-    ∷ B.Answer
-    ∷ B.MidCall b0
-    ∷ B.Moved
-    ∷ B.Clear l b1
-    ∷ B.PeriodOver l
-    ∷ B.RequestReport b0
-    ∷ B.Continue
-    ∷ B.Connect b0 b1
-    ∷ B.Release
-    ∷ B.ApplyCharging l (record { 0 = p })
-    ∷ B.ActivityTest
+    ∷ B.RouteFailure b0 ∷ B.Busy b0 ∷ B.NoAnswer ∷ B.Seized ∷ B.Answer ∷ B.MidCall b0 ∷ B.Moved ∷ B.Clear l b1 ∷ B.PeriodOver l
+    ∷ B.RequestReport b0 ∷ B.Continue ∷ B.Connect b0 b1 ∷ B.Release ∷ B.ApplyCharging l (record { 0 = p }) ∷ B.ActivityTest
     ∷ [])
 
 unfoldable pub bodyOf : ℕ → List ℕ → Body

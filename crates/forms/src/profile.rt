@@ -7,7 +7,7 @@ ghost use lib.ListN.{length, getD, drop};
 ghost use lib.Dec.{leb, eqb};
 ghost use Rattle.forms.specs.Bytes.{toBytes, within, all, leads};
 ghost use Rattle.forms.specs.Fields.{allRight};
-ghost use Rattle.forms.specs.Profile.{handlingNumber, criterionNumber, handlingOf, criterionOf, criterionAt, numberFields, senseRight, listAt, listEnd, numberAt, numbersAt, numbersEnd, viewAt, profileOf, readProfile, matches, someMatches};
+ghost use Rattle.forms.specs.Profile.{handlingOf, criterionOf, criterionAt, numberFields, senseRight, listAt, listEnd, numberAt, numbersAt, numbersEnd, viewAt, profileOf, readProfile, matches, someMatches};
 use crate::bytes;
 use crate::units::Seconds;
 
@@ -43,15 +43,6 @@ pub(crate) struct Numbers {
     pub end: usize,
 }
 
-fn handling_number(h: Handling) -> u8
-    ensures { λ r. ⌜ r ≡ handlingNumber h ⌝ }
-{
-    match h {
-        Handling::Continue => 0,
-        Handling::Release => 1,
-    }
-}
-
 fn handling_of(release: bool) -> Handling
     ensures { λ r. ⌜ r ≡ handlingOf release ⌝ }
 {
@@ -59,16 +50,6 @@ fn handling_of(release: bool) -> Handling
         Handling::Release
     } else {
         Handling::Continue
-    }
-}
-
-fn criterion_number(c: Criterion) -> u8
-    ensures { λ r. ⌜ r ≡ criterionNumber c ⌝ }
-{
-    match c {
-        Criterion::Absent => 0,
-        Criterion::Enabling => 1,
-        Criterion::Inhibiting => 2,
     }
 }
 
@@ -162,22 +143,19 @@ fn view_at(s: &[u8], l: usize) -> ProfileView
     }
 }
 
-// The bytes are written as the profile is.
-fn is_written(s: &[u8], p: ProfileView) -> bool
-    requires { ⌜ p .services ≤ 66000 ⌝ }
-    ensures { λ r. ⌜ r ≡ (((leads (toBytes 2 (length (now (s .entry))) ++ (1 ∷ [])) (now (s .entry)) && eqb (handlingNumber (p .handling)) (getD (now (s .entry)) 3 0)) && eqb (criterionNumber (p .sense)) (getD (now (s .entry)) 5 0)) && (eqb (criterionNumber (p .forwarding)) (getD (now (s .entry)) (listEnd (now (s .entry)) (p .services)) 0) && eqb (length (drop (listEnd (now (s .entry)) (p .services)) (now (s .entry)))) 1)) ⌝ }
+// The bytes are written as a profile is, whose list of services stands at v: length, version, the three choices, and nothing after the last.
+fn is_written(s: &[u8], v: usize) -> bool
+    requires { ⌜ v ≤ 66000 ⌝ }
+    ensures { λ r. ⌜ r ≡ (leads (toBytes 2 (length (now (s .entry))) ++ (1 ∷ [])) (now (s .entry)) && leb (getD (now (s .entry)) 3 0) 1 && leb (getD (now (s .entry)) 5 0) 2 && leb (getD (now (s .entry)) (listEnd (now (s .entry)) v) 0) 2 && eqb (length (drop (listEnd (now (s .entry)) v) (now (s .entry)))) 1) ⌝ }
 {
-    let handling = p.handling;
-    let sense = p.sense;
-    let forwarding = p.forwarding;
-    let v = p.services;
     let f = list_end(s, v);
     let n = s.len();
     let start = [(n / 256 % 256) as u8, (n % 256) as u8, 1];
     bytes::leading(&start, s)
-        & (handling_number(handling) == bytes::at(s, 3))
-        & (criterion_number(sense) == bytes::at(s, 5))
-        & ((criterion_number(forwarding) == bytes::at(s, f)) & (bytes::from(s, f).len() == 1))
+        & (bytes::at(s, 3) <= 1)
+        & (bytes::at(s, 5) <= 2)
+        & (bytes::at(s, f) <= 2)
+        & (bytes::from(s, f).len() == 1)
 }
 
 // The single fields and the lists are in range; so are the numbers, where `numbers` says so.
@@ -204,7 +182,7 @@ pub fn read_profile(s: &[u8]) -> ReadProfile
 {
     let w = walk_numbers(s, bytes::at(s, 6));
     let p = view_at(s, w.end);
-    if is_written(s, p) & is_right(s, p, w.right) {
+    if is_written(s, p.services) & is_right(s, p, w.right) {
         ReadProfile::Profile(p)
     } else {
         ReadProfile::Refused(2)

@@ -7,12 +7,8 @@ ghost use lib.Seq.{sets};
 ghost use Rattle.forms.specs.Item.{itemBytes, formOf, fixedOf};
 ghost use Rattle.forms.specs.Write.{itemLength, written, after};
 use crate::bytes;
-use crate::item::Fixed;
+use crate::item;
 use crate::item::Item;
-use crate::item::fixed_of;
-use crate::item::head_of;
-use crate::item::item_right;
-use crate::item::rest_at;
 
 pub enum Written {
     Length(usize),
@@ -30,13 +26,13 @@ fn put_parts(d: &mut [u8], a: &[u8], b: &[u8], t: &[u8])
 }
 
 // Stores the item's n bytes at the start of `d`; f is the item's row of the table of kinds.
-fn put_item(d: &mut [u8], item: Item, f: Fixed, n: usize, t: &[u8])
+fn put_item(d: &mut [u8], item: Item, f: item::Fixed, n: usize, t: &[u8])
     requires { ⌜ ((f ≡ fixedOf (formOf (item .body))) × (n ≡ itemLength item (now t))) × (n ≤ length (now d)) ⌝ }
     ensures { λ _. ⌜ now (d .exit) ≡ sets (now (d .entry)) 0 (itemBytes item (now (t .entry))) ⌝ }
 {
     let time = item.time.0;
     let bytes = f.bytes;
-    let head = head_of(n, f.kind, item.call, time);
+    let head = item::head_of(n, f.kind, item.call, time);
     put_parts(d, &head, bytes::part_of(&bytes, 0, bytes::size(f.len)), t);
 }
 
@@ -45,9 +41,9 @@ pub fn write_item(item: Item, t: &[u8], d: &mut [u8]) -> Written
     ensures { λ r. ⌜ (r ≡ written item (now (t .entry)) (now (d .entry))) × (now (d .exit) ≡ after item (now (t .entry)) (now (d .entry))) ⌝ }
 {
     let body = item.body;
-    let f = fixed_of(body);
-    let n = rest_at(f) + t.len();
-    if item_right(item, f, t) {
+    let f = item::fixed_of(body);
+    let n = item::rest_at(f) + t.len();
+    if item::item_right(item, f, t) {
         if n <= d.len() {
             put_item(d, item, f, n, t);
             Written::Length(n)
