@@ -30,11 +30,11 @@ fn line_of(t: &[u8]) -> Line {
     if bytes::leading(b"#", t) {
         return Line::Copied;
     }
-    if bytes::leading(b"item ", t) {
-        return Line::Vector(Form::Item, 5);
+    if bytes::leading(b"item", t) {
+        return Line::Vector(Form::Item, 4);
     }
-    if bytes::leading(b"profile ", t) {
-        return Line::Vector(Form::Profile, 8);
+    if bytes::leading(b"profile", t) {
+        return Line::Vector(Form::Profile, 7);
     }
     Line::Other
 }
