@@ -1,15 +1,15 @@
 -- Laws of byte runs, for the proofs of the functions and for the theorems.
-use Prim.Native.Nat.{ℕ, suc, _+_, _*_, _^_, _≤_, _<_}
+use Prim.Native.Nat.{ℕ, zero, suc, _+_, _*_, _/_, _%_, _^_, _≤_, _<_}
 use mathlib.Core.Path.{_≡_, refl}
-use mathlib.Core.List.{List, [], _∷_, _++_}
+use mathlib.Core.List.{List, [], _∷_, _++_, append-assoc}
 use mathlib.Core.Bool.{Bool, true, false, _&&_, and-true, and-false, and-assoc, false≢true}
 use mathlib.Core.Logic.{_⊎_, inl, inr}
 use native.Mathlib.Numerals.{add-one}
-use native.Mathlib.Nat.{pow-suc, pow-le-pow-right, lt-of-lt-of-le, add-zero, add-suc, suc-add}
-use lib.ListN.{length, getD, drop, set, drop-of-length-le}
+use native.Mathlib.Nat.{pow-suc, add-zero, add-suc, suc-add}
+use lib.ListN.{length, getD, drop, set, drop-of-length-le, length-append}
 use native.Mathlib.Omega.{arith}
-use lib.Dec.{eqb, ltb, lit<}
-use lib.Seq.{drop-cons, sets}
+use lib.Dec.{eqb, ltb}
+use lib.Seq.{drop-cons, getD-at, sets}
 use borrow.Author.Tests.{eq-eqb, ne-eqb, eqb-true, ltb-true, ltb-false}
 use Rattle.forms.specs.Bytes.{toBytes, fromBytes, all, contains, leads, same}
 use Rattle.forms.specs.Fields.{framed}
@@ -44,17 +44,6 @@ module _ (a d : List ℕ) (i : ℕ) (h : i < length a) (l : i < length d) where
   pub leads-step : getD a i 0 ≡ getD d i 0 → leads (drop (i + 1) a) (drop (i + 1) d) ≡ leads (drop i a) (drop i d)
   unfolding leads
   leads-step e = rw (add-one i, drop-cons a i 0 h, drop-cons d i 0 l, eq-eqb _ _ e)
-
--- a loop that reads a number: one more byte, and all that is read so far fits
-pub number-next : (s : List ℕ) (i : ℕ) → fromBytes i s * 256 + getD s i 0 ≡ fromBytes (i + 1) s
-number-next s i = rw add-one
-
-module _ (i n b : ℕ) (h : n < 256 ^ i) (l : b < 256) where
-  pub number-below : n * 256 + b < 256 ^ (i + 1)
-  number-below = rw (add-one, pow-suc) (omega arith)
-
-  pub number-fits : i < 6 → n * 256 + b < 281474976710656
-  number-fits k = lt-of-lt-of-le number-below (pow-le-pow-right {n = 256} (lit< tt) {i = i + 1} {j = 6} (omega arith))
 
 -- a loop that stores the elements of s from place a on: what is left to store, at the start, after a turn, at the end
 pub sets-start : (d s : List ℕ) (a : ℕ) → sets d (a + 0) (drop 0 s) ≡ sets d a s
@@ -143,3 +132,27 @@ framed-same b (x ∷ y ∷ z ∷ s) = go (same b s) refl
         let n : 3 + length s ≡ length (x ∷ y ∷ z ∷ s) = omega arith in
         rw (e, same-true b s e, n) (simp and-true)
     go false e = simp (e, and-false)
+
+-- ---- numbers in w bytes
+
+length-bytes : (w n : ℕ) → length (toBytes w n) ≡ w
+length-bytes zero n = refl
+length-bytes (suc w) n = rw (length-append (toBytes w (n / 256)) (n % 256 ∷ []), length-bytes w (n / 256)) (omega arith)
+
+-- a number reads back from its bytes
+pub number-back : (w n : ℕ) (t : List ℕ) → n < 256 ^ w → fromBytes w (toBytes w n ++ t) ≡ n
+number-back zero n t h = omega arith
+number-back (suc w) n t h =
+    let a = toBytes w (n / 256) in
+    let l : n < 256 ^ w * 256 = rw pow-suc at h in
+    rw (append-assoc a (n % 256 ∷ []) t, number-back w (n / 256) (n % 256 ∷ t) (omega arith), getD-at a (n % 256) t 0 w (length-bytes w (n / 256))) (omega arith)
+
+-- the bytes of a number lead the bytes that it was read from
+pub own-bytes : (s : List ℕ) → ((i : ℕ) → getD s i 0 < 256) → (w : ℕ) → w ≤ length s → leads (toBytes w (fromBytes w s)) s ≡ true
+unfolding leads
+own-bytes s b zero h = refl
+own-bytes s b (suc w) h =
+    let m = fromBytes w s in
+    let q : (m * 256 + getD s w 0) / 256 ≡ m = omega (arith, b w) in
+    let r : (m * 256 + getD s w 0) % 256 ≡ getD s w 0 = omega (arith, b w) in
+    rw (q, r, leads-both (toBytes w m) (getD s w 0 ∷ []) s, length-bytes w m, own-bytes s b w (omega arith), drop-cons s w 0 (omega arith), eq-eqb (getD s w 0) (getD s w 0) refl)

@@ -1,17 +1,18 @@
 -- Laws of the item's written form, for the proofs of reading and writing and for the theorems.
-use Prim.Native.Nat.{ℕ, zero, suc, _+_, _*_, _≤_}
-use mathlib.Core.Path.{_≡_, refl, ap}
+use Prim.Native.Nat.{ℕ, zero, suc, _+_, _*_, _≤_, _<_}
+use mathlib.Core.Path.{_≡_, refl, sym, ap, _∙_}
 use mathlib.Core.List.{List, [], _∷_, _++_}
-use mathlib.Core.Bool.{Bool, true, false, _&&_, cond, and-assoc}
+use mathlib.Core.Bool.{Bool, true, false, _&&_, cond, and-true, and-assoc}
 use native.Mathlib.Omega.{arith}
-use lib.ListN.{length, take, drop}
-use lib.Seq.{drop-drop}
+use lib.ListN.{length, getD, take, drop, length-append, length-drop}
+use lib.Seq.{drop-drop, getD-drop}
 use lib.Dec.{leb, ltb, eqb, lit≤}
 use borrow.Author.Tests.{leb-true, eqb-true}
-use Rattle.forms.specs.Bytes.{toBytes, within, leads, same}
+use Rattle.forms.specs.Bytes.{toBytes, fromBytes, within, leads, same}
 use Rattle.forms.specs.Units.{clockEnd}
 use Rattle.forms.specs.Fields.{allRight, framed}
-use Rattle.forms.specs.Item.{formOf, fieldBytes, restRight, itemBytes, itemRight, restAt, bodyFrom, bodyOf, itemOf, isItem, readItem, headOf, pad, fixedOf}
+use Rattle.forms.specs.Item.{formOf, fieldBytes, restRight, itemBytes, itemRight, restAt, restOf, itemOf, isItem, readItem, headOf, pad, fixedOf}
+use Rattle.forms.specs.Write.{itemLength}
 use Rattle.forms.specs.declared.item.Body.{Body}
 use Rattle.forms.specs.declared.item.Body.the-variants as B
 use Rattle.forms.specs.declared.item.Rest.{Rest}
@@ -19,7 +20,7 @@ use Rattle.forms.specs.declared.item.Rest.the-variants.{Nothing, Digits,
 use Rattle.forms.specs.declared.item.Fixed.{Fixed}
 use Rattle.forms.specs.declared.item.Item.{Item}
 use Rattle.forms.specs.declared.item.ReadItem.the-variants as R
-use Rattle.forms.proofs.ByteLaws.{and-left, and-right, leads-both, same-rest, framed-same}
+use Rattle.forms.proofs.ByteLaws.{and-left, and-right, leads-both, same-rest, same-true, framed-same, own-bytes}
 
 -- how many bytes follow the fields
 abbrev pub followed : Rest → ℕ
@@ -71,6 +72,20 @@ pad-back (suc n) (x ∷ l) h = ap (λ (r : List ℕ). x ∷ r) (pad-back n l (om
 pub fields-back : (b : Body) → take (fixedOf (formOf b) .len) (fixedOf (formOf b) .bytes) ≡ fieldBytes b
 fields-back b = pad-back 5 (fieldBytes b) (small b .0)
 
+module _ (i : Item) (t : List ℕ) where
+  -- an item's bytes are its first 14, its fields, and its digits or entries
+  pub item-parts : itemBytes i t ≡ headOf (itemLength i t) (formOf (i .body) .kind) (i .call) (i .time .0) ++ fieldBytes (i .body) ++ t
+  unfolding itemBytes restAt
+  item-parts =
+      let f = fieldBytes (i .body) in
+      let b = formOf (i .body) .kind ∷ (toBytes 4 (i .call) ++ (toBytes 6 (i .time .0) ++ (f ++ t))) in
+      let n : 3 + length b ≡ 14 + length f + length t = omega (arith, length-append f t) in
+      rw n
+
+  pub item-length : length (itemBytes i t) ≡ itemLength i t
+  unfolding restAt
+  item-length = rw item-parts (simp length-append)
+
 -- the 14 bytes before the fields f, in a form of n bytes
 module _ (k c t : ℕ) (f : List ℕ) where
   abbrev inner : List ℕ
@@ -93,18 +108,39 @@ module _ (i : Item) (f : Fixed) (e : f ≡ fixedOf (formOf (i .body))) where
   unfolding itemRight
   item-right t = rw e
 
-  pub is-item : (s : List ℕ)
-      → isItem i s
-      ≡ ((leads (headOf (length s) (f .kind) (i .call) (i .time .0)) s && leads (take (f .len) (f .bytes)) (drop 14 s))
-      && ((f .right && restRight (f .rest) (drop (14 + f .len) s)) && ltb (i .time .0) clockEnd))
-  unfolding isItem itemBytes itemRight restAt
-  is-item s = rw (e, fields-back (i .body), form-same (formOf (i .body) .kind) (i .call) (i .time .0) (fieldBytes (i .body)) s)
+  -- of an item that was read from s, call and time need no test: their bytes are those that they were read from
+  module _ (s : List ℕ) (q : i ≡ itemOf s) (bytes : (k : ℕ) → getD s k 0 < 256) (h : 14 ≤ length s) where
+    own : (a : ℕ) (k : ℕ) → getD (drop a s) k 0 < 256
+    own a k = rw (getD-drop a s k 0) (bytes (a + k))
 
--- no bytes are no item, and the digits or entries of an item begin within its first 19 bytes
-pub read-none : readItem [] ≡ R.Refused 1
-unfolding readItem isItem itemOf bodyOf bodyFrom itemBytes itemRight restAt same
-read-none = refl
+    head-same : leads (headOf (length s) (f .kind) (i .call) (i .time .0)) s ≡ leads (toBytes 2 (length s) ++ (1 ∷ f .kind ∷ [])) s
+    unfolding itemOf
+    head-same =
+        let c = fromBytes 4 (drop 4 s) in
+        let t = fromBytes 6 (drop 8 s) in
+        let c₁ = own-bytes (drop 4 s) (own 4) 4 (rw length-drop (omega arith)) in
+        let t₁ = own-bytes (drop 8 s) (own 8) 6 (rw length-drop (omega arith)) in
+        rw (q, leads-both (toBytes 2 (length s) ++ (1 ∷ f .kind ∷ [])) (toBytes 4 c ++ toBytes 6 t) s, leads-both (toBytes 4 c) (toBytes 6 t) (drop 4 s), drop-drop 4 4 s, c₁, t₁, and-true)
 
+    pub is-item : isItem i s
+        ≡ ((leads (toBytes 2 (length s) ++ (1 ∷ f .kind ∷ [])) s && leads (take (f .len) (f .bytes)) (drop 14 s))
+        && ((f .right && restRight (f .rest) (drop (14 + f .len) s)) && ltb (i .time .0) clockEnd))
+    unfolding isItem itemBytes itemRight restAt
+    is-item = rw (← head-same, e, fields-back (i .body), form-same (formOf (i .body) .kind) (i .call) (i .time .0) (fieldBytes (i .body)) s)
+
+-- fewer than 14 bytes are no item
+pub read-short : (s : List ℕ) → length s < 14 → readItem s ≡ R.Refused 1
+unfolding readItem isItem restAt
+read-short s h =
+    let i = itemOf s in
+    let t = restOf (i .body) s in
+    go (same (itemBytes i t) s) (λ e. let l : 14 + length (fieldBytes (i .body)) + length t ≡ length s = sym (item-length i t) ∙ ap length (same-true (itemBytes i t) s e) in omega arith)
+  where
+    go : (b : Bool) → (b ≡ true → ⊥) → cond (b && itemRight (itemOf s) (restOf (itemOf s .body) s)) (R.Item (itemOf s) (restAt (itemOf s .body))) (R.Refused 1) ≡ R.Refused 1
+    go true h = absurd (h refl)
+    go false h = refl
+
+-- the digits or entries of an item begin within its first 19 bytes
 pub place-small : (s : List ℕ) (i : Item) (n : ℕ) → readItem s ≡ R.Item i n → n ≤ 19
 unfolding readItem restAt
 place-small s i n h = go (isItem (itemOf s) s) h

@@ -19,22 +19,8 @@ use Rattle.forms.specs.declared.item.Body.{Body}
 use Rattle.forms.specs.declared.item.Body.the-variants as B
 use Rattle.forms.specs.declared.item.Item.{Item}
 use Rattle.forms.specs.declared.item.ReadItem.the-variants as R
-use Rattle.forms.proofs.ByteLaws.{and-left, and-right, same-self, same-true}
-use Rattle.forms.proofs.ItemLaws.{item-size}
-use Rattle.forms.proofs.WriteLaws.{item-parts, item-length}
-
--- ---- a number in w bytes reads back
-
-length-bytes : (w n : ℕ) → length (toBytes w n) ≡ w
-length-bytes zero n = refl
-length-bytes (suc w) n = rw (length-append (toBytes w (n / 256)) (n % 256 ∷ []), length-bytes w (n / 256)) (omega arith)
-
-number-back : (w n : ℕ) (t : List ℕ) → n < 256 ^ w → fromBytes w (toBytes w n ++ t) ≡ n
-number-back zero n t h = omega arith
-number-back (suc w) n t h =
-    let a = toBytes w (n / 256) in
-    let l : n < 256 ^ w * 256 = rw pow-suc at h in
-    rw (append-assoc a (n % 256 ∷ []) t, number-back w (n / 256) (n % 256 ∷ t) (omega arith), getD-at a (n % 256) t 0 w (length-bytes w (n / 256))) (omega arith)
+use Rattle.forms.proofs.ByteLaws.{and-left, and-right, number-back, same-self, same-true}
+use Rattle.forms.proofs.ItemLaws.{item-size, item-parts, item-length}
 
 -- ---- what is written reads back the same
 

@@ -14,31 +14,19 @@ use Rattle.forms.specs.Write.{itemLength, writable, written, after}
 use Rattle.forms.specs.declared.item.Item.{Item}
 use Rattle.forms.specs.declared.write.Written.the-variants as W
 use Rattle.forms.proofs.ByteLaws.{sets-then}
+use Rattle.forms.proofs.ItemLaws.{item-length}
 
 -- three parts stored one after the other
 pub parts : (a b t d : List ℕ) → sets (sets (sets d 0 a) (length a) b) (length a + length b) t ≡ sets d 0 (a ++ b ++ t)
 parts a b t d = rw (sets-then a b d 0 (length a) (sym (zero-add (length a)))) (sets-then (a ++ b) t d 0 _ (omega (arith, length-append a b)))
 
 module _ (i : Item) (t : List ℕ) where
-  -- an item's bytes are its first 14, its fields, and its digits or entries
-  pub item-parts : itemBytes i t ≡ headOf (itemLength i t) (formOf (i .body) .kind) (i .call) (i .time .0) ++ fieldBytes (i .body) ++ t
-  unfolding itemBytes restAt
-  item-parts =
-      let f = fieldBytes (i .body) in
-      let b = formOf (i .body) .kind ∷ (toBytes 4 (i .call) ++ (toBytes 6 (i .time .0) ++ (f ++ t))) in
-      let n : 3 + length b ≡ 14 + length f + length t = omega (arith, length-append f t) in
-      rw n
-
-  pub item-length : length (itemBytes i t) ≡ itemLength i t
-  unfolding restAt
-  item-length = rw item-parts (simp length-append)
-
   -- the three answers: written, no room, out of range
   module _ (d : List ℕ) where
     pub yes : itemRight i t ≡ true → itemLength i t ≤ length d → (W.Length (itemLength i t) ≡ written i t d) × (sets d 0 (itemBytes i t) ≡ after i t d)
     unfolding written after writable
     yes h l =
-        let e : 0 + length (itemBytes i t) ≡ itemLength i t = zero-add _ ∙ item-length in
+        let e : 0 + length (itemBytes i t) ≡ itemLength i t = zero-add _ ∙ item-length i t in
         (rw (h, le-leb _ _ l), rw (h, le-leb _ _ l, ← e) (sets-eq (itemBytes i t) d 0 (rw e l)))
 
     pub no-room : itemRight i t ≡ true → length d < itemLength i t → (W.Refused 1 ≡ written i t d) × (d ≡ after i t d)

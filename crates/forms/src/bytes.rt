@@ -1,6 +1,6 @@
 // Lent byte runs: reading never leaves them, whatever the place. Numbers are big-endian (document 01, Forms).
 ghost use mathlib.Core.Path.{_≡_};
-ghost use Prim.Native.Nat.{_+_, _<_, _≤_, _^_};
+ghost use Prim.Native.Nat.{_+_, _<_, _≤_};
 ghost use lib.ListN.{length, getD, drop};
 ghost use lib.Seq.{sets};
 ghost use Rattle.forms.specs.Bytes.{fromBytes, part, within, all, contains, leads};
@@ -33,18 +33,25 @@ pub(crate) fn size(n: u8) -> usize
     n as usize
 }
 
-// The number that the first w bytes are.
-pub(crate) fn number(s: &[u8], w: usize) -> usize
-    requires { ⌜ w ≤ 6 ⌝ }
-    ensures { λ r. ⌜ (r ≡ fromBytes w (now (s .entry))) × (r < 256 ^ w) ⌝ }
+// The numbers that the first 2, 4 and 6 bytes are.
+pub(crate) fn number2(s: &[u8]) -> usize
+    ensures { λ r. ⌜ (r ≡ fromBytes 2 (now (s .entry))) × (r < 65536) ⌝ }
 {
-    let mut n: usize = 0;
-    let mut i: usize = 0;
-    while i < w {
-        n = n * 256 + size(at(s, i));
-        i += 1;
-    }
-    n
+    size(at(s, 0)) * 256 + size(at(s, 1))
+}
+
+pub(crate) fn number4(s: &[u8]) -> usize
+    ensures { λ r. ⌜ (r ≡ fromBytes 4 (now (s .entry))) × (r < 4294967296) ⌝ }
+{
+    size(at(s, 0)) * 16777216 + size(at(s, 1)) * 65536 + size(at(s, 2)) * 256 + size(at(s, 3))
+}
+
+pub(crate) fn number6(s: &[u8]) -> usize
+    ensures { λ r. ⌜ (r ≡ fromBytes 6 (now (s .entry))) × (r < 281474976710656) ⌝ }
+{
+    let high = size(at(s, 0)) * 1099511627776 + size(at(s, 1)) * 4294967296;
+    let middle = size(at(s, 2)) * 16777216 + size(at(s, 3)) * 65536;
+    high + middle + size(at(s, 4)) * 256 + size(at(s, 5))
 }
 
 pub(crate) fn is_within(n: u8, low: u8, high: u8) -> bool

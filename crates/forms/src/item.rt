@@ -1,6 +1,6 @@
 // Items: the table of kinds, and reading (document 01, Forms). Bytes read as the item whose written form they are.
 ghost use mathlib.Core.Path.{_≡_};
-ghost use mathlib.Core.List.{[], _∷_};
+ghost use mathlib.Core.List.{[], _∷_, _++_};
 ghost use mathlib.Core.Bool.{true, _&&_};
 ghost use Prim.Native.Nat.{_+_, _*_, _≤_};
 ghost use lib.ListN.{length, take, drop};
@@ -8,7 +8,7 @@ ghost use lib.Dec.{ltb};
 ghost use Rattle.forms.specs.Bytes.{toBytes, leads};
 ghost use Rattle.forms.specs.Units.{clockEnd};
 ghost use Rattle.forms.specs.Fields.{legNumber};
-ghost use Rattle.forms.specs.Item.{formOf, restRight, legOf, bodyFrom, itemOf, readItem, readItemAt, entryOf, readEntry, headOf, fixed, fixedOf};
+ghost use Rattle.forms.specs.Item.{formOf, restRight, legOf, bodyFrom, itemOf, readItem, readItemAt, entryOf, readEntry, fixed, fixedOf};
 use crate::bytes;
 use crate::units::Seconds;
 use crate::units::Tenths;
@@ -240,35 +240,13 @@ fn item_of(s: &[u8]) -> Item
         bytes::at(b, 2),
         bytes::at(b, 3),
         leg_of(b0 == 2),
-        bytes::number(bytes::from(b, 1), 4) as u64,
+        bytes::number4(bytes::from(b, 1)) as u64,
     );
     Item {
-        call: bytes::number(bytes::from(s, 4), 4) as u32,
-        time: Tenths(bytes::number(bytes::from(s, 8), 6) as u64),
+        call: bytes::number4(bytes::from(s, 4)) as u32,
+        time: Tenths(bytes::number6(bytes::from(s, 8)) as u64),
         body,
     }
-}
-
-// The first 14 bytes of n in all: length, version, kind, call, time.
-pub(crate) fn head_of(n: usize, kind: u8, call: u32, time: u64) -> [u8; 14]
-    ensures { λ r. ⌜ r ≡ headOf n kind call time ⌝ }
-{
-    [
-        (n / 256 % 256) as u8,
-        (n % 256) as u8,
-        1,
-        kind,
-        (call / 256 / 256 / 256 % 256) as u8,
-        (call / 256 / 256 % 256) as u8,
-        (call / 256 % 256) as u8,
-        (call % 256) as u8,
-        (time / 256 / 256 / 256 / 256 / 256 % 256) as u8,
-        (time / 256 / 256 / 256 / 256 % 256) as u8,
-        (time / 256 / 256 / 256 % 256) as u8,
-        (time / 256 / 256 % 256) as u8,
-        (time / 256 % 256) as u8,
-        (time % 256) as u8,
-    ]
 }
 
 // Where the digits or the entries begin.
@@ -278,18 +256,15 @@ pub(crate) fn rest_at(f: Fixed) -> usize
     14 + bytes::size(f.len)
 }
 
-// The bytes begin as the item is written.
-fn starts(item: Item, f: Fixed, s: &[u8]) -> bool
-    ensures { λ r. ⌜ r ≡ (leads (headOf (length (now (s .entry))) (f .kind) (item .call) (item .time .0)) (now (s .entry)) && leads (take (f .len) (f .bytes)) (drop 14 (now (s .entry)))) ⌝ }
+// The bytes begin as an item of the row f, and the fields are written as f says.
+fn starts(f: Fixed, s: &[u8]) -> bool
+    ensures { λ r. ⌜ r ≡ (leads (toBytes 2 (length (now (s .entry))) ++ (1 ∷ f .kind ∷ [])) (now (s .entry)) && leads (take (f .len) (f .bytes)) (drop 14 (now (s .entry)))) ⌝ }
 {
-    let time = item.time.0;
+    let n = s.len();
     let bytes = f.bytes;
-    let head = head_of(s.len(), f.kind, item.call, time);
-    bytes::leading(&head, s)
-        & bytes::leading(
-            bytes::part_of(&bytes, 0, bytes::size(f.len)),
-            bytes::from(s, 14),
-        )
+    let start = [(n / 256 % 256) as u8, (n % 256) as u8, 1, f.kind];
+    let fields = bytes::part_of(&bytes, 0, bytes::size(f.len));
+    bytes::leading(&start, s) & bytes::leading(fields, bytes::from(s, 14))
 }
 
 fn rest_right(rest: Rest, t: &[u8]) -> bool
@@ -316,11 +291,14 @@ pub(crate) fn item_right(item: Item, f: Fixed, t: &[u8]) -> bool
 pub fn read_item(s: &[u8]) -> ReadItem
     ensures { λ r. ⌜ r ≡ readItem (now (s .entry)) ⌝ }
 {
+    if s.len() < 14 {
+        return ReadItem::Refused(1);
+    }
     let item = item_of(s);
     let body = item.body;
     let f = fixed_of(body);
     let at = rest_at(f);
-    if starts(item, f, s) & item_right(item, f, bytes::from(s, at)) {
+    if starts(f, s) & item_right(item, f, bytes::from(s, at)) {
         ReadItem::Item(item, at)
     } else {
         ReadItem::Refused(1)
@@ -348,7 +326,7 @@ fn entry_of(e: &[u8]) -> Entry
         point: bytes::at(e, 0),
         leg: bytes::at(e, 1),
         mode: bytes::at(e, 2),
-        timer: Seconds(bytes::number(bytes::from(e, 3), 2) as u16),
+        timer: Seconds(bytes::number2(bytes::from(e, 3)) as u16),
     }
 }
 

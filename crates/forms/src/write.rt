@@ -4,7 +4,7 @@ ghost use mathlib.Core.List.{_++_};
 ghost use Prim.Native.Nat.{_+_, _≤_};
 ghost use lib.ListN.{length};
 ghost use lib.Seq.{sets};
-ghost use Rattle.forms.specs.Item.{itemBytes, formOf, fixedOf};
+ghost use Rattle.forms.specs.Item.{itemBytes, formOf, headOf, fixedOf};
 ghost use Rattle.forms.specs.Write.{itemLength, written, after};
 use crate::bytes;
 use crate::item;
@@ -13,6 +13,28 @@ use crate::item::Item;
 pub enum Written {
     Length(usize),
     Refused(u8),
+}
+
+// The first 14 bytes of n in all: length, version, kind, call, time.
+fn head_of(n: usize, kind: u8, call: u32, time: u64) -> [u8; 14]
+    ensures { λ r. ⌜ r ≡ headOf n kind call time ⌝ }
+{
+    [
+        (n / 256 % 256) as u8,
+        (n % 256) as u8,
+        1,
+        kind,
+        (call / 256 / 256 / 256 % 256) as u8,
+        (call / 256 / 256 % 256) as u8,
+        (call / 256 % 256) as u8,
+        (call % 256) as u8,
+        (time / 256 / 256 / 256 / 256 / 256 % 256) as u8,
+        (time / 256 / 256 / 256 / 256 % 256) as u8,
+        (time / 256 / 256 / 256 % 256) as u8,
+        (time / 256 / 256 % 256) as u8,
+        (time / 256 % 256) as u8,
+        (time % 256) as u8,
+    ]
 }
 
 // Stores three parts, one after the other, at the start of `d`.
@@ -32,7 +54,7 @@ fn put_item(d: &mut [u8], item: Item, f: item::Fixed, n: usize, t: &[u8])
 {
     let time = item.time.0;
     let bytes = f.bytes;
-    let head = item::head_of(n, f.kind, item.call, time);
+    let head = head_of(n, f.kind, item.call, time);
     put_parts(d, &head, bytes::part_of(&bytes, 0, bytes::size(f.len)), t);
 }
 

@@ -2,15 +2,17 @@ use borrow.Author.Needs.{needs}
 use mathlib.Core.Path.{sym, _∙_}
 use native.Mathlib.Nat.{le-of-lt}
 use native.Mathlib.Omega.{arith}
+use mathlib.Core.List.{[]}
+use lib.Dec.{lit<}
 use lib.ListN.{drop-of-length-le}
 use Rattle.forms.specs.Item.{readItemAt}
-use Rattle.forms.proofs.ItemLaws.{read-none, place-small}
+use Rattle.forms.proofs.ItemLaws.{read-short, place-small}
 use Rattle.forms.proofs.item.item_at.Statement.{statement}
 use Rattle.forms.proofs.item.item_at.Tie as tie
 
 returns : tie.Need-returns
 unfolding readItemAt
-returns c = rw (drop-of-length-le _ (le-of-lt (c .if1 .taken)), read-none)
+returns c = rw (drop-of-length-le _ (le-of-lt (c .if1 .taken)), read-short [] (lit< tt))
 
 add-place : tie.Need-add-t11
 add-place c =

@@ -7,7 +7,7 @@ returns : tie.Need-returns
 unfolding itemOf bodyOf
 returns c =
     let r = c .before .before .before .before in
-    rw (c .number3 .ensures .0, c .before .from4 .ensures, c .before .before .number2 .ensures .0, c .before .before .before .from3 .ensures, r .body-from .ensures, r .before .number .ensures .0, r .before .before .from2 .ensures, r .before .before .before .leg-of .ensures, r .before .before .before .before .at5 .ensures, r .before .before .before .before .before .at4 .ensures, r .before .before .before .before .before .before .at3 .ensures, r .before .before .before .before .before .before .before .at2 .ensures, r .before .before .before .before .before .before .before .before .at .ensures, r .before .before .before .before .before .before .before .before .before .from .ensures)
+    rw (c .number6 .ensures .0, c .before .from4 .ensures, c .before .before .number42 .ensures .0, c .before .before .before .from3 .ensures, r .body-from .ensures, r .before .number4 .ensures .0, r .before .before .from2 .ensures, r .before .before .before .leg-of .ensures, r .before .before .before .before .at5 .ensures, r .before .before .before .before .before .at4 .ensures, r .before .before .before .before .before .before .at3 .ensures, r .before .before .before .before .before .before .before .at2 .ensures, r .before .before .before .before .before .before .before .before .at .ensures, r .before .before .before .before .before .before .before .before .before .from .ensures)
 
 pub item-of-spec : {M : Type 1} → statement M
 item-of-spec =

@@ -1,8 +1,7 @@
 -- `forms::write::put_item` meets its contract: the three parts are the item's bytes.
 use borrow.Author.Needs.{needs}
 use Rattle.forms.specs.Item.{restAt}
-use Rattle.forms.proofs.ItemLaws.{fields-back}
-use Rattle.forms.proofs.WriteLaws.{item-parts}
+use Rattle.forms.proofs.ItemLaws.{item-parts, fields-back}
 use Rattle.forms.proofs.write.put_item.Statement.{statement}
 use Rattle.forms.proofs.write.put_item.Tie as tie
 
