@@ -14,6 +14,25 @@ use borrow.Author.Tests.{eq-eqb, ne-eqb, eqb-true, ltb-true, ltb-false}
 use Rattle.forms.specs.Bytes.{toBytes, fromBytes, all, contains, leads, same}
 use Rattle.forms.specs.Fields.{framed}
 
+-- ---- tests
+
+pub below-or-past : (i n : ℕ) → (i < n) ⊎ (n ≤ i)
+below-or-past i n = go (ltb i n) refl
+  where
+    go : (b : Bool) → ltb i n ≡ b → (i < n) ⊎ (n ≤ i)
+    go true e = inl (ltb-true i n e)
+    go false e = inr (ltb-false i n e)
+
+pub and-left : (a b : Bool) → (a && b) ≡ true → a ≡ true
+and-left true b h = refl
+and-left false b h = h
+
+pub and-right : (a b : Bool) → (a && b) ≡ true → b ≡ true
+and-right true b h = h
+and-right false b h = absurd (false≢true h)
+
+-- ---- loops over bytes
+
 -- a loop that tests each element: past the end, at one that passes, at one that fails
 pub all-end : (p : ℕ → Bool) (s : List ℕ) (i : ℕ) → length s ≤ i → all p (drop i s) ≡ true
 unfolding all
@@ -26,6 +45,19 @@ all-step p s i h e = rw (add-one, drop-cons s i 0 h, e)
 pub all-stop : (p : ℕ → Bool) (s : List ℕ) (i : ℕ) → i < length s → p (getD s i 0) ≡ false → all p (drop i s) ≡ false
 unfolding all
 all-stop p s i h e = rw (drop-cons s i 0 h, e)
+
+-- a loop that looks for x: past the end, at it, at another
+pub contains-end : (x : ℕ) (t : List ℕ) (i : ℕ) → length t ≤ i → contains x (drop i t) ≡ false
+unfolding contains
+contains-end x t i h = rw (drop-of-length-le t h)
+
+pub contains-stop : (x : ℕ) (t : List ℕ) (i : ℕ) → i < length t → getD t i 0 ≡ x → contains x (drop i t) ≡ true
+unfolding contains
+contains-stop x t i h e = rw (drop-cons t i 0 h, eq-eqb _ _ e)
+
+pub contains-step : (x : ℕ) (t : List ℕ) (i : ℕ) → i < length t → (getD t i 0 ≡ x → ⊥) → contains x (drop (i + 1) t) ≡ contains x (drop i t)
+unfolding contains
+contains-step x t i h e = rw (add-one i, drop-cons t i 0 h, ne-eqb _ _ e)
 
 -- a loop that compares each element with that of d: at the end of either, at one that differs, at one that agrees
 pub leads-end : (a d : List ℕ) (i : ℕ) → length a ≤ i → leads (drop i a) (drop i d) ≡ true
@@ -62,34 +94,6 @@ sets-more (x ∷ a) b d i = rw (add-suc, ← suc-add i (length a)) (sets-more a 
 
 pub sets-then : (a b d : List ℕ) (i n : ℕ) → n ≡ i + length a → sets (sets d i a) n b ≡ sets d i (a ++ b)
 sets-then a b d i n e = rw e (sets-more a b d i)
-
-pub below-or-past : (i n : ℕ) → (i < n) ⊎ (n ≤ i)
-below-or-past i n = go (ltb i n) refl
-  where
-    go : (b : Bool) → ltb i n ≡ b → (i < n) ⊎ (n ≤ i)
-    go true e = inl (ltb-true i n e)
-    go false e = inr (ltb-false i n e)
-
-pub and-left : (a b : Bool) → (a && b) ≡ true → a ≡ true
-and-left true b h = refl
-and-left false b h = h
-
-pub and-right : (a b : Bool) → (a && b) ≡ true → b ≡ true
-and-right true b h = h
-and-right false b h = let z : _≡_ {A = ℕ} 0 1 = cc in absurd (omega arith)
-
--- a loop that looks for x: past the end, at it, at another
-pub contains-end : (x : ℕ) (t : List ℕ) (i : ℕ) → length t ≤ i → contains x (drop i t) ≡ false
-unfolding contains
-contains-end x t i h = rw (drop-of-length-le t h)
-
-pub contains-stop : (x : ℕ) (t : List ℕ) (i : ℕ) → i < length t → getD t i 0 ≡ x → contains x (drop i t) ≡ true
-unfolding contains
-contains-stop x t i h e = rw (drop-cons t i 0 h, eq-eqb _ _ e)
-
-pub contains-step : (x : ℕ) (t : List ℕ) (i : ℕ) → i < length t → (getD t i 0 ≡ x → ⊥) → contains x (drop (i + 1) t) ≡ contains x (drop i t)
-unfolding contains
-contains-step x t i h e = rw (add-one i, drop-cons t i 0 h, ne-eqb _ _ e)
 
 -- ---- runs that lead, and runs that are the same
 
