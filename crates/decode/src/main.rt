@@ -27,13 +27,13 @@ fn line_of(t: &[u8]) -> Line {
     if t.len() == 0 {
         return Line::Copied;
     }
-    if bytes::leading(b"#", t) {
+    if bytes::leads(b"#", t) {
         return Line::Copied;
     }
-    if bytes::leading(b"item", t) {
+    if bytes::leads(b"item", t) {
         return Line::Vector(Form::Item, 4);
     }
-    if bytes::leading(b"profile", t) {
+    if bytes::leads(b"profile", t) {
         return Line::Vector(Form::Profile, 7);
     }
     Line::Other

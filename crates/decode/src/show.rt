@@ -79,7 +79,7 @@ fn is_same(item: Item, rest: &[u8], s: &[u8]) -> bool {
     let written = write::write_item(item, rest, &mut d);
     match written {
         Written::Length(n) => {
-            (n == s.len()) & bytes::leading(s, &d) & bytes::leading(bytes::from(&d, n), &blank)
+            (n == s.len()) & bytes::leads(s, &d) & bytes::leads(bytes::from(&d, n), &blank)
         }
         Written::Refused(_) => false,
     }

@@ -5,8 +5,8 @@ use mathlib.Core.Path.{_≡_, refl}
 use mathlib.Core.List.{List, [], _∷_, _++_, map}
 use lib.ListN.{replicate}
 use Rattle.forms.specs.Bytes.{all, same}
-use Rattle.forms.specs.Item.{itemBytes, itemRight, restAt, bodyFrom, bodyOf, itemOf, isItem, readItem}
-use Rattle.forms.specs.Profile.{fieldsOf, profileBytes, profileRight, numbersAt, numbersEnd, viewAt, profileOf, isProfile, readProfile}
+use Rattle.forms.specs.Item.{itemBytes, itemInRange, restAt, bodyFrom, bodyOf, itemOf, isItem, readItem}
+use Rattle.forms.specs.Profile.{fieldsOf, profileBytes, profileInRange, numbersAt, numbersEnd, viewAt, profileOf, isProfile, readProfile}
 use Rattle.forms.specs.declared.item.Leg.the-variants.{Two}
 use Rattle.forms.specs.declared.item.Body.{Body}
 use Rattle.forms.specs.declared.item.Body.the-variants as B
@@ -42,7 +42,7 @@ edges =
     ∷ []
 
 pub edges-hold : map (λ (c : Case). readItem (c .bytes)) edges ≡ map (λ (c : Case). c .says) edges
-unfolding all same itemBytes itemRight restAt bodyFrom bodyOf itemOf isItem readItem
+unfolding all same itemBytes itemInRange restAt bodyFrom bodyOf itemOf isItem readItem
 edges-hold = refl
 
 abbrev badItems : List (List ℕ)
@@ -62,7 +62,7 @@ badItems =
     ∷ []
 
 pub bad-items-refused : map readItem badItems ≡ map (λ (s : List ℕ). R.Refused 1) badItems
-unfolding all same itemBytes itemRight restAt bodyFrom bodyOf itemOf isItem readItem
+unfolding all same itemBytes itemInRange restAt bodyFrom bodyOf itemOf isItem readItem
 bad-items-refused = refl
 
 -- bytes of a profile: length, version and fields as given
@@ -85,5 +85,5 @@ badProfiles =
     ∷ []
 
 pub bad-profiles-refused : map readProfile badProfiles ≡ map (λ (s : List ℕ). P.Refused 2) badProfiles
-unfolding all same fieldsOf profileBytes profileRight numbersAt numbersEnd viewAt profileOf isProfile readProfile
+unfolding all same fieldsOf profileBytes profileInRange numbersAt numbersEnd viewAt profileOf isProfile readProfile
 bad-profiles-refused = refl

@@ -10,8 +10,8 @@ use lib.Dec.{leb, ltb, eqb, lit≤}
 use borrow.Author.Tests.{leb-true, eqb-true}
 use Rattle.forms.specs.Bytes.{toBytes, fromBytes, within, leads, same}
 use Rattle.forms.specs.Units.{clockEnd}
-use Rattle.forms.specs.Fields.{allRight, framed}
-use Rattle.forms.specs.Item.{formOf, fieldBytes, restRight, itemBytes, itemRight, restAt, restOf, itemOf, isItem, readItem, headOf, pad, fixedOf}
+use Rattle.forms.specs.Fields.{allInRange, framed}
+use Rattle.forms.specs.Item.{formOf, fieldBytes, restInRange, itemBytes, itemInRange, restAt, restOf, itemOf, isItem, readItem, headOf, pad, fixedOf}
 use Rattle.forms.specs.Write.{itemLength}
 use Rattle.forms.specs.declared.item.Body.{Body}
 use Rattle.forms.specs.declared.item.Body.the-variants as B
@@ -30,7 +30,7 @@ followed (Entries c) = c * 5
 
 -- the fields of every kind fit their five places; in range, with what follows they are at most 51 bytes
 abbrev Small : Body → Type 0
-Small b = (length (fieldBytes b) ≤ 5) × (allRight (formOf b .fields) ≡ true → length (fieldBytes b) + followed (formOf b .rest) ≤ 51)
+Small b = (length (fieldBytes b) ≤ 5) × (allInRange (formOf b .fields) ≡ true → length (fieldBytes b) + followed (formOf b .rest) ≤ 51)
 
 small : (b : Body) → Small b
 small (B.Setup n s f c) = (lit≤ tt, λ h. omega (arith, leb-true c 15 (and-right (leb 1 c) _ (and-left (within 1 15 c) true (and-right (within 0 127 n) _ h)))))
@@ -51,17 +51,17 @@ small (B.ApplyCharging l p) = (lit≤ tt, λ h. lit≤ tt)
 small B.ActivityTest = (lit≤ tt, λ h. lit≤ tt)
 small B.Abort = (lit≤ tt, λ h. lit≤ tt)
 
-pub rest-size : (r : Rest) (t : List ℕ) → restRight r t ≡ true → length t ≡ followed r
+pub rest-size : (r : Rest) (t : List ℕ) → restInRange r t ≡ true → length t ≡ followed r
 rest-size Nothing t h = eqb-true _ _ h
 rest-size (Digits c) t h = eqb-true _ _ (and-left (eqb (length t) c) _ h)
 rest-size (Entries c) t h = eqb-true _ _ h
 
-pub item-size : (i : Item) (t : List ℕ) → itemRight i t ≡ true → length (fieldBytes (i .body)) + length t ≤ 51
-unfolding itemRight
+pub item-size : (i : Item) (t : List ℕ) → itemInRange i t ≡ true → length (fieldBytes (i .body)) + length t ≤ 51
+unfolding itemInRange
 item-size i t h =
     let f = formOf (i .body) in
-    let r = and-left (allRight (f .fields) && restRight (f .rest) t) (ltb (i .time .0) clockEnd) h in
-    rw (rest-size (f .rest) t (and-right (allRight (f .fields)) _ r)) (small (i .body) .1 (and-left (allRight (f .fields)) (restRight (f .rest) t) r))
+    let r = and-left (allInRange (f .fields) && restInRange (f .rest) t) (ltb (i .time .0) clockEnd) h in
+    rw (rest-size (f .rest) t (and-right (allInRange (f .fields)) _ r)) (small (i .body) .1 (and-left (allInRange (f .fields)) (restInRange (f .rest) t) r))
 
 pad-back : (n : ℕ) (l : List ℕ) → length l ≤ n → take (length l) (pad n l) ≡ l
 pad-back zero [] h = refl
@@ -104,9 +104,9 @@ module _ (i : Item) (f : Fixed) (e : f ≡ fixedOf (formOf (i .body))) where
   unfolding restAt
   rest-at = rw e
 
-  pub item-right : (t : List ℕ) → itemRight i t ≡ ((f .right && restRight (f .rest) t) && ltb (i .time .0) clockEnd)
-  unfolding itemRight
-  item-right t = rw e
+  pub item-in-range : (t : List ℕ) → itemInRange i t ≡ ((f .in_range && restInRange (f .rest) t) && ltb (i .time .0) clockEnd)
+  unfolding itemInRange
+  item-in-range t = rw e
 
   -- of an item that was read from s, call and time need no test: their bytes are those that they were read from
   module _ (s : List ℕ) (q : i ≡ itemOf s) (bytes : (k : ℕ) → getD s k 0 < 256) (h : 14 ≤ length s) where
@@ -124,8 +124,8 @@ module _ (i : Item) (f : Fixed) (e : f ≡ fixedOf (formOf (i .body))) where
 
     pub is-item : isItem i s
         ≡ ((leads (toBytes 2 (length s) ++ (1 ∷ f .kind ∷ [])) s && leads (take (f .len) (f .bytes)) (drop 14 s))
-        && ((f .right && restRight (f .rest) (drop (14 + f .len) s)) && ltb (i .time .0) clockEnd))
-    unfolding isItem itemBytes itemRight restAt
+        && ((f .in_range && restInRange (f .rest) (drop (14 + f .len) s)) && ltb (i .time .0) clockEnd))
+    unfolding isItem itemBytes itemInRange restAt
     is-item = rw (← head-same, e, fields-back (i .body), form-same (formOf (i .body) .kind) (i .call) (i .time .0) (fieldBytes (i .body)) s)
 
 -- fewer than 14 bytes are no item
@@ -136,7 +136,7 @@ read-short s h =
     let t = restOf (i .body) s in
     go (same (itemBytes i t) s) (λ e. let l : 14 + length (fieldBytes (i .body)) + length t ≡ length s = sym (item-length i t) ∙ ap length (same-true (itemBytes i t) s e) in omega arith)
   where
-    go : (b : Bool) → (b ≡ true → ⊥) → cond (b && itemRight (itemOf s) (restOf (itemOf s .body) s)) (R.Item (itemOf s) (restAt (itemOf s .body))) (R.Refused 1) ≡ R.Refused 1
+    go : (b : Bool) → (b ≡ true → ⊥) → cond (b && itemInRange (itemOf s) (restOf (itemOf s .body) s)) (R.Item (itemOf s) (restAt (itemOf s .body))) (R.Refused 1) ≡ R.Refused 1
     go true h = absurd (h refl)
     go false h = refl
 

@@ -11,8 +11,8 @@ use lib.Seq.{drop-at, getD-at}
 use lib.Dec.{leb, ltb}
 use Rattle.forms.specs.Bytes.{toBytes, fromBytes, same}
 use Rattle.forms.specs.Units.{clockEnd, isPeriod}
-use Rattle.forms.specs.Fields.{allRight}
-use Rattle.forms.specs.Item.{formOf, fieldBytes, restRight, itemBytes, itemRight, restAt, restOf, bodyFrom, bodyOf, itemOf, isItem, readItem, headOf}
+use Rattle.forms.specs.Fields.{allInRange}
+use Rattle.forms.specs.Item.{formOf, fieldBytes, restInRange, itemBytes, itemInRange, restAt, restOf, bodyFrom, bodyOf, itemOf, isItem, readItem, headOf}
 use Rattle.forms.specs.declared.units.Tenths.{Tenths}
 use Rattle.forms.specs.declared.item.Leg.the-variants.{One, Two}
 use Rattle.forms.specs.declared.item.Body.{Body}
@@ -28,7 +28,7 @@ period-back : (p : Tenths) (t : List ℕ) → isPeriod (p .0) ≡ true → fromB
 period-back p t h = number-back 4 (p .0) t (omega (arith, leb-true (p .0) 864000 (and-right (leb 1 (p .0)) _ h)))
 
 -- each kind's bytes name its values
-body-back : (b : Body) (t : List ℕ) → allRight (formOf b .fields) ≡ true → bodyOf (formOf b .kind) (fieldBytes b ++ t) ≡ b
+body-back : (b : Body) (t : List ℕ) → allInRange (formOf b .fields) ≡ true → bodyOf (formOf b .kind) (fieldBytes b ++ t) ≡ b
 unfolding bodyOf bodyFrom
 body-back (B.Setup n s true c) t h = refl
 body-back (B.Setup n s false c) t h = refl
@@ -52,13 +52,13 @@ body-back (B.ApplyCharging Two p) t h = ap (λ (x : ℕ). B.ApplyCharging Two (r
 body-back B.ActivityTest t h = refl
 body-back B.Abort t h = refl
 
-module _ (i : Item) (t : List ℕ) (right : itemRight i t ≡ true) (call : i .call < 256 ^ 4) where
-  in-range : (allRight (formOf (i .body) .fields) ≡ true) × (i .time .0 < clockEnd)
-  unfolding itemRight
+module _ (i : Item) (t : List ℕ) (right : itemInRange i t ≡ true) (call : i .call < 256 ^ 4) where
+  in-range : (allInRange (formOf (i .body) .fields) ≡ true) × (i .time .0 < clockEnd)
+  unfolding itemInRange
   in-range =
       let f = formOf (i .body) in
-      let r = allRight (f .fields) && restRight (f .rest) t in
-      (and-left (allRight (f .fields)) (restRight (f .rest) t) (and-left r (ltb (i .time .0) clockEnd) right), ltb-true _ _ (and-right r _ right))
+      let r = allInRange (f .fields) && restInRange (f .rest) t in
+      (and-left (allInRange (f .fields)) (restInRange (f .rest) t) (and-left r (ltb (i .time .0) clockEnd) right), ltb-true _ _ (and-right r _ right))
 
   item-back : itemOf (itemBytes i t) ≡ i
   unfolding itemOf itemBytes
@@ -80,18 +80,18 @@ module _ (i : Item) (t : List ℕ) (right : itemRight i t ≡ true) (call : i .c
 -- what reading an item says of the bytes
 record Reads (s : List ℕ) (i : Item) (n : ℕ) : Type 0 where
   written : itemBytes i (restOf (i .body) s) ≡ s
-  right : itemRight i (restOf (i .body) s) ≡ true
+  inRange : itemInRange i (restOf (i .body) s) ≡ true
   place : n ≡ restAt (i .body)
 
 reads : (s : List ℕ) (i : Item) (n : ℕ) → readItem s ≡ R.Item i n → Reads s i n
 unfolding readItem isItem
 reads s i n h = go (itemOf s) (isItem (itemOf s) s) refl h
   where
-    go : (j : Item) (b : Bool) → (same (itemBytes j (restOf (j .body) s)) s && itemRight j (restOf (j .body) s)) ≡ b → cond b (R.Item j (restAt (j .body))) (R.Refused 1) ≡ R.Item i n → Reads s i n
+    go : (j : Item) (b : Bool) → (same (itemBytes j (restOf (j .body) s)) s && itemInRange j (restOf (j .body) s)) ≡ b → cond b (R.Item j (restAt (j .body))) (R.Refused 1) ≡ R.Item i n → Reads s i n
     go j true e h =
         let q : j ≡ i = cc in
         let t = restOf (j .body) s in
-        rw (← q) (record { written = same-true _ _ (and-left (same (itemBytes j t) s) (itemRight j t) e); right = and-right (same (itemBytes j t) s) _ e; place = cc })
+        rw (← q) (record { written = same-true _ _ (and-left (same (itemBytes j t) s) (itemInRange j t) e); inRange = and-right (same (itemBytes j t) s) _ e; place = cc })
     go j false e h = let z : _≡_ {A = ℕ} 0 1 = cc in absurd (omega arith)
 
 module _ (s : List ℕ) (i : Item) (n : ℕ) (h : readItem s ≡ R.Item i n) where
@@ -106,7 +106,7 @@ module _ (s : List ℕ) (i : Item) (n : ℕ) (h : readItem s ≡ R.Item i n) whe
       let r = reads s i n h in
       let t = restOf (i .body) s in
       let l : 14 + length (fieldBytes (i .body)) + length t ≡ length s = sym (item-length i t) ∙ ap length (r .written) in
-      (omega arith, omega (arith, item-size i t (r .right)))
+      (omega arith, omega (arith, item-size i t (r .inRange)))
 
 -- two byte runs that read as one item, with the same digits or entries, are the same bytes
 pub one-run : (s r : List ℕ) (i : Item) (m n : ℕ) → readItem s ≡ R.Item i m → readItem r ≡ R.Item i n → drop m s ≡ drop n r → s ≡ r

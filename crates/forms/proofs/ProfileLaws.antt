@@ -12,8 +12,8 @@ use lib.ListN.{length, getD, take, drop, drop-of-length-le}
 use lib.Seq.{drop-cons, drop-drop, getD-drop, length-take-le, take-all}
 use lib.Dec.{leb, eqb}
 use Rattle.forms.specs.Bytes.{toBytes, within, part, all, leads, same}
-use Rattle.forms.specs.Fields.{Field, bytesIn, allRight}
-use Rattle.forms.specs.Profile.{handlingNumber, criterionNumber, count, numberFields, listFields, fieldsOf, profileBytes, senseRight, profileRight, handlingOf, criterionOf, listAt, listEnd, numberAt, numbersAt, numbersEnd, viewAt, viewOf, profileOf}
+use Rattle.forms.specs.Fields.{Field, bytesIn, allInRange}
+use Rattle.forms.specs.Profile.{handlingNumber, criterionNumber, count, numberFields, listFields, fieldsOf, profileBytes, senseInRange, profileInRange, handlingOf, criterionOf, listAt, listEnd, numberAt, numbersAt, numbersEnd, viewAt, viewOf, profileOf}
 use Rattle.forms.specs.declared.profile.ProfileView.{ProfileView}
 use Rattle.forms.proofs.ByteLaws.{below-or-past, framed-same}
 
@@ -23,9 +23,9 @@ pub bytes-both : (a b : List Field) → bytesIn (a ++ b) ≡ bytesIn a ++ bytesI
 bytes-both [] b = refl
 bytes-both (f ∷ a) b = rw (bytes-both a b, append-assoc)
 
-pub rights-both : (a b : List Field) → allRight (a ++ b) ≡ (allRight a && allRight b)
-rights-both [] b = refl
-rights-both (f ∷ a) b = rw (rights-both a b, and-assoc)
+pub in-range-both : (a b : List Field) → allInRange (a ++ b) ≡ (allInRange a && allInRange b)
+in-range-both [] b = refl
+in-range-both (f ∷ a) b = rw (in-range-both a b, and-assoc)
 
 pub counts : (n : ℕ) (s : List ℕ) (q : ℕ) → count (numbersAt n s q) ≡ n
 unfolding numbersAt
@@ -137,11 +137,11 @@ module _ (s : List ℕ) (p : ProfileView) (e : p ≡ viewOf s) where
       (rw (cell s (getD s 4 0 ∷ c ∷ n ∷ w₁) refl 3 h, cell s (c ∷ n ∷ w₁) refl 4 (getD s 4 0), eq-eqb (getD s 4 0) (getD s 4 0) refl, cell s (n ∷ w₁) refl 5 c, cell s w₁ (same-none (bytesIn fs) w₂ refl) 6 n, eq-eqb n n refl)
       (rw (numbers-same s w₂ refl n 7, list-same s w₃ refl l, list-same s w₄ refl v, last-same (criterionNumber (profileOf s .forwarding)) s f, handling-is (getD s 3 0), criterion-is (getD s 5 0), criterion-is (getD s f 0)) (simp and-assoc)))
 
-  pub profile-right : profileRight (profileOf s)
-      ≡ ((within 10 180 (p .timer .0) && leb n 10 && allRight (numberFields (numbersAt n s 7)) && leb (length (listAt s (p .lengths))) 3 && all (within 1 15) (listAt s (p .lengths)) && leb (length (listAt s (p .services))) 5)
-      && senseRight (p .sense) (n + length (listAt s (p .lengths))))
-  unfolding profileRight fieldsOf profileOf viewAt
-  profile-right = rw (e, rights-both (numberFields (numbersAt n s 7)) (listFields (profileOf s)), counts n s 7) (simp (and-assoc, and-true))
+  pub profile-right : profileInRange (profileOf s)
+      ≡ ((within 10 180 (p .timer .0) && leb n 10 && allInRange (numberFields (numbersAt n s 7)) && leb (length (listAt s (p .lengths))) 3 && all (within 1 15) (listAt s (p .lengths)) && leb (length (listAt s (p .services))) 5)
+      && senseInRange (p .sense) (n + length (listAt s (p .lengths))))
+  unfolding profileInRange fieldsOf profileOf viewAt
+  profile-right = rw (e, in-range-both (numberFields (numbersAt n s 7)) (listFields (profileOf s)), counts n s 7) (simp (and-assoc, and-true))
 
 -- ---- the loops over the numbers: one more, and none left
 
@@ -167,6 +167,6 @@ module _ (s : List ℕ) (q : ℕ) where
   end-none (suc n) h = absurd (omega arith)
 
   -- what was found so far, and one more
-  pub right-next : (ok : Bool) (n : ℕ) → 0 < n
-      → ((ok && allRight (numberFields (numberAt s q ∷ []))) && allRight (numberFields (numbersAt (n - 1) s (listEnd s (q + 1))))) ≡ (ok && allRight (numberFields (numbersAt n s q)))
-  right-next ok n h = rw (numbers-next n h) (simp (and-assoc, and-true))
+  pub in-range-next : (ok : Bool) (n : ℕ) → 0 < n
+      → ((ok && allInRange (numberFields (numberAt s q ∷ []))) && allInRange (numberFields (numbersAt (n - 1) s (listEnd s (q + 1))))) ≡ (ok && allInRange (numberFields (numbersAt n s q)))
+  in-range-next ok n h = rw (numbers-next n h) (simp (and-assoc, and-true))

@@ -9,8 +9,8 @@ use lib.ListN.{length, getD, drop, length-append}
 use lib.Seq.{drop-drop, take-append-seam, drop-append-seam}
 use lib.Dec.{leb, eqb}
 use Rattle.forms.specs.Bytes.{within, all, same}
-use Rattle.forms.specs.Fields.{bytesIn, allRight}
-use Rattle.forms.specs.Profile.{Number, Profile, handlingNumber, criterionNumber, count, numberFields, listFields, fieldsOf, profileBytes, senseRight, profileRight, handlingOf, criterionOf, listAt, listEnd, numbersAt, numbersEnd, viewAt, viewOf, profileOf, isProfile, readProfile}
+use Rattle.forms.specs.Fields.{bytesIn, allInRange}
+use Rattle.forms.specs.Profile.{Number, Profile, handlingNumber, criterionNumber, count, numberFields, listFields, fieldsOf, profileBytes, senseInRange, profileInRange, handlingOf, criterionOf, listAt, listEnd, numbersAt, numbersEnd, viewAt, viewOf, profileOf, isProfile, readProfile}
 use Rattle.forms.specs.declared.profile.Handling.{Handling}
 use Rattle.forms.specs.declared.profile.Handling.the-variants as H
 use Rattle.forms.specs.declared.profile.Criterion.{Criterion}
@@ -18,7 +18,7 @@ use Rattle.forms.specs.declared.profile.Criterion.the-variants as C
 use Rattle.forms.specs.declared.profile.ProfileView.{ProfileView}
 use Rattle.forms.specs.declared.profile.ReadProfile.the-variants as R
 use Rattle.forms.proofs.ByteLaws.{and-left, and-right, same-self, same-true}
-use Rattle.forms.proofs.ProfileLaws.{bytes-both, rights-both, head-at}
+use Rattle.forms.proofs.ProfileLaws.{bytes-both, in-range-both, head-at}
 
 -- ---- what is written reads back the same
 
@@ -67,19 +67,19 @@ module _ (p : Profile) where
       rw (n .0, l .0, r .0, c .0, handling-back (p .handling), criterion-back (p .sense), criterion-back (p .forwarding))
 
   -- reading what was written gives a view of the profile
-  pub read-back : profileRight p ≡ true → (readProfile (profileBytes p) ≡ R.Profile (viewOf (profileBytes p))) × (profileOf (profileBytes p) ≡ p)
+  pub read-back : profileInRange p ≡ true → (readProfile (profileBytes p) ≡ R.Profile (viewOf (profileBytes p))) × (profileOf (profileBytes p) ≡ p)
   unfolding readProfile isProfile
   read-back right = (rw (value-back, same-self (profileBytes p), right), value-back)
 
 -- ---- one written form
 
 module _ (s : List ℕ) (v : ProfileView) (h : readProfile s ≡ R.Profile v) where
-  reads : ((profileBytes (profileOf s) ≡ s) × (profileRight (profileOf s) ≡ true)) × (v ≡ viewOf s)
+  reads : ((profileBytes (profileOf s) ≡ s) × (profileInRange (profileOf s) ≡ true)) × (v ≡ viewOf s)
   unfolding readProfile isProfile
-  reads = go (profileOf s) (same (profileBytes (profileOf s)) s && profileRight (profileOf s)) refl h
+  reads = go (profileOf s) (same (profileBytes (profileOf s)) s && profileInRange (profileOf s)) refl h
     where
-      go : (p : Profile) (b : Bool) → (same (profileBytes p) s && profileRight p) ≡ b → cond b (R.Profile (viewOf s)) (R.Refused 2) ≡ R.Profile v → ((profileBytes p ≡ s) × (profileRight p ≡ true)) × (v ≡ viewOf s)
-      go p true e h = ((same-true _ _ (and-left (same (profileBytes p) s) (profileRight p) e), and-right (same (profileBytes p) s) _ e), cc)
+      go : (p : Profile) (b : Bool) → (same (profileBytes p) s && profileInRange p) ≡ b → cond b (R.Profile (viewOf s)) (R.Refused 2) ≡ R.Profile v → ((profileBytes p ≡ s) × (profileInRange p ≡ true)) × (v ≡ viewOf s)
+      go p true e h = ((same-true _ _ (and-left (same (profileBytes p) s) (profileInRange p) e), and-right (same (profileBytes p) s) _ e), cc)
       go p false e h = let z : _≡_ {A = ℕ} 0 1 = cc in absurd (omega arith)
 
   -- bytes that read as a profile are its written form
@@ -92,7 +92,7 @@ one-run s r v w hs hr e = sym (one-form s v hs) ∙ ap profileBytes e ∙ one-fo
 
 -- ---- sizes
 
-numbers-size : (ns : List Number) → allRight (numberFields ns) ≡ true → length (bytesIn (numberFields ns)) ≤ 17 * count ns
+numbers-size : (ns : List Number) → allInRange (numberFields ns) ≡ true → length (bytesIn (numberFields ns)) ≤ 17 * count ns
 numbers-size [] h = omega arith
 numbers-size (x ∷ ns) h =
     let d = length (x .digits) in
@@ -101,18 +101,18 @@ numbers-size (x ∷ ns) h =
     let i = numbers-size ns (and-right (all (within 0 14) (x .digits)) _ (and-right (within 1 15 d) _ r)) in
     omega (arith, length-append (x .digits) (bytesIn (numberFields ns)))
 
-size : (p : Profile) → profileRight p ≡ true → (10 ≤ length (profileBytes p)) × (length (profileBytes p) ≤ 188)
-unfolding profileRight profileBytes fieldsOf
+size : (p : Profile) → profileInRange p ≡ true → (10 ≤ length (profileBytes p)) × (length (profileBytes p) ≤ 188)
+unfolding profileInRange profileBytes fieldsOf
 size p h =
     let ns = numberFields (p .numbers) in
     let l = length (p .lengths) in
     let v = length (p .services) in
-    let ok = and-right (within 10 180 (p .timer)) _ (and-left _ (senseRight (p .sense) (count (p .numbers) + l)) h) in
-    let both : (allRight ns && allRight (listFields p)) ≡ true = sym (rights-both ns (listFields p)) ∙ and-right (leb (count (p .numbers)) 10) _ ok in
-    let lists = and-right (allRight ns) _ both in
+    let ok = and-right (within 10 180 (p .timer)) _ (and-left _ (senseInRange (p .sense) (count (p .numbers) + l)) h) in
+    let both : (allInRange ns && allInRange (listFields p)) ≡ true = sym (in-range-both ns (listFields p)) ∙ and-right (leb (count (p .numbers)) 10) _ ok in
+    let lists = and-right (allInRange ns) _ both in
     let after = and-right (all (within 1 15) (p .lengths)) _ (and-right (leb l 3) _ lists) in
     let m₁ = leb-true (count (p .numbers)) 10 (and-left (leb (count (p .numbers)) 10) _ ok) in
-    let m₂ = numbers-size (p .numbers) (and-left (allRight ns) _ both) in
+    let m₂ = numbers-size (p .numbers) (and-left (allInRange ns) _ both) in
     let m₃ = leb-true l 3 (and-left (leb l 3) _ lists) in
     let m₄ = leb-true v 5 (and-left (leb v 5) _ after) in
     rw (bytes-both ns (listFields p), length-append (bytesIn ns) (bytesIn (listFields p)), length-append (p .lengths) (v ∷ (p .services ++ (criterionNumber (p .forwarding) ∷ []))), length-append (p .services) (criterionNumber (p .forwarding) ∷ [])) (omega arith, omega arith)

@@ -9,7 +9,7 @@ use borrow.Author.Tests.{le-leb, lt-leb}
 use lib.ListN.{length, length-append}
 use lib.Seq.{sets, sets-eq}
 use Rattle.forms.specs.Bytes.{toBytes}
-use Rattle.forms.specs.Item.{formOf, fieldBytes, itemBytes, itemRight, restAt, headOf}
+use Rattle.forms.specs.Item.{formOf, fieldBytes, itemBytes, itemInRange, restAt, headOf}
 use Rattle.forms.specs.Write.{itemLength, writable, written, after}
 use Rattle.forms.specs.declared.item.Item.{Item}
 use Rattle.forms.specs.declared.write.Written.the-variants as W
@@ -23,16 +23,16 @@ parts a b t d = rw (sets-then a b d 0 (length a) (sym (zero-add (length a)))) (s
 module _ (i : Item) (t : List ℕ) where
   -- the three answers: written, no room, out of range
   module _ (d : List ℕ) where
-    pub yes : itemRight i t ≡ true → itemLength i t ≤ length d → (W.Length (itemLength i t) ≡ written i t d) × (sets d 0 (itemBytes i t) ≡ after i t d)
+    pub yes : itemInRange i t ≡ true → itemLength i t ≤ length d → (W.Length (itemLength i t) ≡ written i t d) × (sets d 0 (itemBytes i t) ≡ after i t d)
     unfolding written after writable
     yes h l =
         let e : 0 + length (itemBytes i t) ≡ itemLength i t = zero-add _ ∙ item-length i t in
         (rw (h, le-leb _ _ l), rw (h, le-leb _ _ l, ← e) (sets-eq (itemBytes i t) d 0 (rw e l)))
 
-    pub no-room : itemRight i t ≡ true → length d < itemLength i t → (W.Refused 1 ≡ written i t d) × (d ≡ after i t d)
+    pub no-room : itemInRange i t ≡ true → length d < itemLength i t → (W.Refused 1 ≡ written i t d) × (d ≡ after i t d)
     unfolding written after writable
     no-room h l = (rw (h, lt-leb _ _ l), rw (h, lt-leb _ _ l))
 
-    pub no : itemRight i t ≡ false → (W.Refused 1 ≡ written i t d) × (d ≡ after i t d)
+    pub no : itemInRange i t ≡ false → (W.Refused 1 ≡ written i t d) × (d ≡ after i t d)
     unfolding written after writable
     no h = (rw h, rw h)

@@ -12,10 +12,10 @@ use Rattle.forms.specs.declared.item.Leg.the-variants.{One, Two}
 -- what is written of a field, and whether its value is in range
 pub record Field : Type 0 where
   pub bytes : List ℕ
-  pub right : Bool
+  pub inRange : Bool
 
 abbrev pub run : List ℕ → Bool → Field
-run bytes right = record { bytes = bytes; right = right }
+run bytes inRange = record { bytes = bytes; inRange = inRange }
 
 -- "a field whose width isn't given is one byte"
 abbrev pub byte : ℕ → Bool → Field
@@ -74,9 +74,9 @@ abbrev pub bytesIn : List Field → List ℕ
 bytesIn [] = []
 bytesIn (f ∷ fs) = f .bytes ++ bytesIn fs
 
-abbrev pub allRight : List Field → Bool
-allRight [] = true
-allRight (f ∷ fs) = f .right && allRight fs
+abbrev pub allInRange : List Field → Bool
+allInRange [] = true
+allInRange (f ∷ fs) = f .inRange && allInRange fs
 
 -- "Two bytes total length, equal to the bytes handed over, and one version byte 1"
 abbrev pub framed : List ℕ → List ℕ

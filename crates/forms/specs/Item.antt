@@ -6,7 +6,7 @@ use lib.ListN.{length, getD, drop}
 use lib.Dec.{ltb, leb, eqb}
 use Rattle.forms.specs.Bytes.{toBytes, fromBytes, all, same}
 use Rattle.forms.specs.Units.{clockEnd}
-use Rattle.forms.specs.Fields.{Field, nature, service, forwarded, digitCount, isDigit, digit, cause, leg, entryCount, period, bytesIn, allRight, framed}
+use Rattle.forms.specs.Fields.{Field, nature, service, forwarded, digitCount, isDigit, digit, cause, leg, entryCount, period, bytesIn, allInRange, framed}
 use Rattle.forms.specs.declared.item.Leg.{Leg}
 use Rattle.forms.specs.declared.item.Leg.the-variants.{One, Two}
 use Rattle.forms.specs.declared.item.Body.{Body}
@@ -52,10 +52,10 @@ formOf B.ActivityTest = form 25 [] Nothing
 formOf B.Abort = form 26 [] Nothing
 
 -- what follows: nothing; "one byte per digit 0..14"; or, "each: point, leg, mode, timer (2 bytes), of any value", five bytes an entry
-abbrev pub restRight : Rest → List ℕ → Bool
-restRight Nothing t = eqb (length t) 0
-restRight (Digits count) t = eqb (length t) count && all isDigit t
-restRight (Entries count) t = eqb (length t) (count * 5)
+abbrev pub restInRange : Rest → List ℕ → Bool
+restInRange Nothing t = eqb (length t) 0
+restInRange (Digits count) t = eqb (length t) count && all isDigit t
+restInRange (Entries count) t = eqb (length t) (count * 5)
 
 -- ---- an item, t its digits or entries, as bytes: "length, version, kind (1 byte), call (4), time (6), body"
 
@@ -66,8 +66,8 @@ unfoldable pub itemBytes : Item → List ℕ → List ℕ
 itemBytes i t = framed (formOf (i .body) .kind ∷ (toBytes 4 (i .call) ++ (toBytes 6 (i .time .0) ++ (fieldBytes (i .body) ++ t))))
 
 -- every field is in its range, and t is what follows
-unfoldable pub itemRight : Item → List ℕ → Bool
-itemRight i t = (allRight (formOf (i .body) .fields) && restRight (formOf (i .body) .rest) t) && ltb (i .time .0) clockEnd
+unfoldable pub itemInRange : Item → List ℕ → Bool
+itemInRange i t = (allInRange (formOf (i .body) .fields) && restInRange (formOf (i .body) .rest) t) && ltb (i .time .0) clockEnd
 
 -- where the digits or the entries begin
 unfoldable pub restAt : Body → ℕ
@@ -105,7 +105,7 @@ restOf b s = drop (restAt b) s
 
 -- s is the written form of the item i with what follows in s, and i is in range
 unfoldable pub isItem : Item → List ℕ → Bool
-isItem i s = same (itemBytes i (restOf (i .body) s)) s && itemRight i (restOf (i .body) s)
+isItem i s = same (itemBytes i (restOf (i .body) s)) s && itemInRange i (restOf (i .body) s)
 
 -- what the bytes say: the item that is written so, and the place where its digits or entries begin; else refusal 1
 unfoldable pub readItem : List ℕ → ReadItem
@@ -139,7 +139,7 @@ pad (suc n) [] = 0 ∷ pad n []
 pad (suc n) (x ∷ l) = x ∷ pad n l
 
 abbrev pub fixed : ℕ → List ℕ → Bool → Rest → Fixed
-fixed kind bytes right rest = record { kind = kind; len = length bytes; bytes = pad 5 bytes; right = right; rest = rest }
+fixed kind bytes inRange rest = record { kind = kind; len = length bytes; bytes = pad 5 bytes; in_range = inRange; rest = rest }
 
 abbrev pub fixedOf : Form → Fixed
-fixedOf f = fixed (f .kind) (bytesIn (f .fields)) (allRight (f .fields)) (f .rest)
+fixedOf f = fixed (f .kind) (bytesIn (f .fields)) (allInRange (f .fields)) (f .rest)

@@ -5,7 +5,7 @@ use mathlib.Core.Bool.{Bool, true, false, _&&_, _||_, cond}
 use lib.ListN.{length, getD}
 use lib.Dec.{leb, eqb}
 use Rattle.forms.specs.Bytes.{within, part, all, leads, same}
-use Rattle.forms.specs.Fields.{Field, byte, run, nature, digitCount, digits, bytesIn, allRight, framed}
+use Rattle.forms.specs.Fields.{Field, byte, run, nature, digitCount, digits, bytesIn, allInRange, framed}
 use Rattle.forms.specs.declared.profile.Handling.{Handling}
 use Rattle.forms.specs.declared.profile.Handling.the-variants as H
 use Rattle.forms.specs.declared.profile.Criterion.{Criterion}
@@ -76,13 +76,13 @@ unfoldable pub profileBytes : Profile → List ℕ
 profileBytes p = framed (bytesIn (fieldsOf p))
 
 -- "Sense 0 goes with both counts 0; sense 1 or 2 with at least one number or length."
-abbrev pub senseRight : Criterion → ℕ → Bool
-senseRight C.Absent total = eqb total 0
-senseRight C.Enabling total = leb 1 total
-senseRight C.Inhibiting total = leb 1 total
+abbrev pub senseInRange : Criterion → ℕ → Bool
+senseInRange C.Absent total = eqb total 0
+senseInRange C.Enabling total = leb 1 total
+senseInRange C.Inhibiting total = leb 1 total
 
-unfoldable pub profileRight : Profile → Bool
-profileRight p = allRight (fieldsOf p) && senseRight (p .sense) (count (p .numbers) + length (p .lengths))
+unfoldable pub profileInRange : Profile → Bool
+profileInRange p = allInRange (fieldsOf p) && senseInRange (p .sense) (count (p .numbers) + length (p .lengths))
 
 -- ---- reading: the values at their places
 
@@ -145,7 +145,7 @@ profileOf s =
 
 -- s is the written form of the profile p, and p is in range
 unfoldable pub isProfile : Profile → List ℕ → Bool
-isProfile p s = same (profileBytes p) s && profileRight p
+isProfile p s = same (profileBytes p) s && profileInRange p
 
 -- what the bytes say: the profile that is written so, else refusal 2
 unfoldable pub readProfile : List ℕ → ReadProfile

@@ -5,7 +5,7 @@ use mathlib.Core.List.{List, _++_}
 use mathlib.Core.Bool.{Bool, _&&_, cond}
 use lib.ListN.{length, drop}
 use lib.Dec.{leb}
-use Rattle.forms.specs.Item.{itemBytes, itemRight, restAt}
+use Rattle.forms.specs.Item.{itemBytes, itemInRange, restAt}
 use Rattle.forms.specs.declared.item.Item.{Item}
 use Rattle.forms.specs.declared.write.Written.{Written}
 use Rattle.forms.specs.declared.write.Written.the-variants as W
@@ -16,7 +16,7 @@ itemLength i t = restAt (i .body) + length t
 
 -- it is in range, and the buffer d is long enough
 unfoldable pub writable : Item → List ℕ → List ℕ → Bool
-writable i t d = itemRight i t && leb (itemLength i t) (length d)
+writable i t d = itemInRange i t && leb (itemLength i t) (length d)
 
 -- the answer, and the whole buffer afterwards
 unfoldable pub written : Item → List ℕ → List ℕ → Written

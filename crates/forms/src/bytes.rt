@@ -76,7 +76,7 @@ pub(crate) fn all_within(s: &[u8], low: u8, high: u8) -> bool
 }
 
 // Some byte is x.
-pub fn has(t: &[u8], x: usize) -> bool
+pub fn contains(t: &[u8], x: usize) -> bool
     ensures { λ r. ⌜ r ≡ contains x (now (t .entry)) ⌝ }
 {
     let mut i = 0;
@@ -90,7 +90,7 @@ pub fn has(t: &[u8], x: usize) -> bool
 }
 
 // The bytes of `a` are the leading bytes of `d`.
-pub fn leading(a: &[u8], d: &[u8]) -> bool
+pub fn leads(a: &[u8], d: &[u8]) -> bool
     ensures { λ r. ⌜ r ≡ leads (now (a .entry)) (now (d .entry)) ⌝ }
 {
     let mut i = 0;

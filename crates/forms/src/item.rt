@@ -8,7 +8,7 @@ ghost use lib.Dec.{ltb};
 ghost use Rattle.forms.specs.Bytes.{toBytes, leads};
 ghost use Rattle.forms.specs.Units.{clockEnd};
 ghost use Rattle.forms.specs.Fields.{legNumber};
-ghost use Rattle.forms.specs.Item.{formOf, restRight, legOf, bodyFrom, itemOf, readItem, readItemAt, entryOf, readEntry, fixed, fixedOf};
+ghost use Rattle.forms.specs.Item.{formOf, restInRange, legOf, bodyFrom, itemOf, readItem, readItemAt, entryOf, readEntry, fixed, fixedOf};
 use crate::bytes;
 use crate::units::Seconds;
 use crate::units::Tenths;
@@ -85,19 +85,19 @@ pub(crate) struct Fixed {
     pub kind: u8,
     pub len: u8,
     pub bytes: [u8; 5],
-    pub right: bool,
+    pub in_range: bool,
     pub rest: Rest,
 }
 
 // The rows: any; without a field; with one and nothing after it.
-fn row(kind: u8, len: u8, bytes: [u8; 5], right: bool, rest: Rest) -> Fixed
-    ensures { λ r. ⌜ r ≡ record { kind = kind; len = len; bytes = bytes; right = right; rest = rest } ⌝ }
+fn row(kind: u8, len: u8, bytes: [u8; 5], in_range: bool, rest: Rest) -> Fixed
+    ensures { λ r. ⌜ r ≡ record { kind = kind; len = len; bytes = bytes; in_range = in_range; rest = rest } ⌝ }
 {
     Fixed {
         kind,
         len,
         bytes,
-        right,
+        in_range,
         rest,
     }
 }
@@ -108,20 +108,26 @@ fn no_field(kind: u8) -> Fixed
     row(kind, 0, [0, 0, 0, 0, 0], true, Rest::Nothing)
 }
 
-fn one_field(kind: u8, a: u8, right: bool) -> Fixed
-    ensures { λ r. ⌜ r ≡ fixed kind (a ∷ []) right Rest.Nothing ⌝ }
+fn one_field(kind: u8, a: u8, in_range: bool) -> Fixed
+    ensures { λ r. ⌜ r ≡ fixed kind (a ∷ []) in_range Rest.Nothing ⌝ }
 {
-    row(kind, 1, [a, 0, 0, 0, 0], right, Rest::Nothing)
+    row(kind, 1, [a, 0, 0, 0, 0], in_range, Rest::Nothing)
 }
 
 // A byte, a field of four bytes, and nothing after them.
-fn long_field(kind: u8, a: u8, n: u64, right: bool) -> Fixed
-    ensures { λ r. ⌜ r ≡ fixed kind (a ∷ toBytes 4 n) right Rest.Nothing ⌝ }
+fn long_field(kind: u8, a: u8, n: u64, in_range: bool) -> Fixed
+    ensures { λ r. ⌜ r ≡ fixed kind (a ∷ toBytes 4 n) in_range Rest.Nothing ⌝ }
 {
     let b = (n / 256 / 256 / 256 % 256) as u8;
     let c = (n / 256 / 256 % 256) as u8;
     let d = (n / 256 % 256) as u8;
-    row(kind, 5, [a, b, c, d, (n % 256) as u8], right, Rest::Nothing)
+    row(
+        kind,
+        5,
+        [a, b, c, d, (n % 256) as u8],
+        in_range,
+        Rest::Nothing,
+    )
 }
 
 fn leg_number(leg: Leg) -> u8
@@ -264,11 +270,11 @@ fn starts(f: Fixed, s: &[u8]) -> bool
     let bytes = f.bytes;
     let start = [(n / 256 % 256) as u8, (n % 256) as u8, 1, f.kind];
     let fields = bytes::part_of(&bytes, 0, bytes::size(f.len));
-    bytes::leading(&start, s) & bytes::leading(fields, bytes::from(s, 14))
+    bytes::leads(&start, s) & bytes::leads(fields, bytes::from(s, 14))
 }
 
-fn rest_right(rest: Rest, t: &[u8]) -> bool
-    ensures { λ r. ⌜ r ≡ restRight rest (now (t .entry)) ⌝ }
+fn rest_in_range(rest: Rest, t: &[u8]) -> bool
+    ensures { λ r. ⌜ r ≡ restInRange rest (now (t .entry)) ⌝ }
 {
     let n = t.len();
     match rest {
@@ -279,12 +285,12 @@ fn rest_right(rest: Rest, t: &[u8]) -> bool
 }
 
 // Every field of the item is in its range, and `t` is its digits or entries.
-pub(crate) fn item_right(item: Item, f: Fixed, t: &[u8]) -> bool
-    ensures { λ r. ⌜ r ≡ ((f .right && restRight (f .rest) (now (t .entry))) && ltb (item .time .0) clockEnd) ⌝ }
+pub(crate) fn item_in_range(item: Item, f: Fixed, t: &[u8]) -> bool
+    ensures { λ r. ⌜ r ≡ ((f .in_range && restInRange (f .rest) (now (t .entry))) && ltb (item .time .0) clockEnd) ⌝ }
 {
     let time = item.time.0;
     let rest = f.rest;
-    f.right & rest_right(rest, t) & (time < Tenths::CLOCK_END.0)
+    f.in_range & rest_in_range(rest, t) & (time < Tenths::CLOCK_END.0)
 }
 
 // The item that the bytes are, or refusal 1.
@@ -298,7 +304,7 @@ pub fn read_item(s: &[u8]) -> ReadItem
     let body = item.body;
     let f = fixed_of(body);
     let at = rest_at(f);
-    if starts(f, s) & item_right(item, f, bytes::from(s, at)) {
+    if starts(f, s) & item_in_range(item, f, bytes::from(s, at)) {
         ReadItem::Item(item, at)
     } else {
         ReadItem::Refused(1)
@@ -306,7 +312,7 @@ pub fn read_item(s: &[u8]) -> ReadItem
 }
 
 // The item that the bytes from place `a` on are, and the place of its digits or entries.
-pub fn item_at(s: &[u8], a: usize) -> ReadItem
+pub fn read_item_at(s: &[u8], a: usize) -> ReadItem
     ensures { λ r. ⌜ r ≡ readItemAt (now (s .entry)) a ⌝ }
 {
     if s.len() < a {
@@ -338,7 +344,7 @@ pub fn nth_entry(t: &[u8], i: u8) -> Entry
 }
 
 // The entry at a place, and the place after it.
-pub fn entry_at(s: &[u8], a: usize) -> ReadEntry
+pub fn read_entry(s: &[u8], a: usize) -> ReadEntry
     ensures { λ r. ⌜ r ≡ readEntry (now (s .entry)) a ⌝ }
 {
     let e = bytes::from(s, a);

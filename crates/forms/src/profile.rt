@@ -6,8 +6,8 @@ ghost use Prim.Native.Nat.{_+_, _≤_};
 ghost use lib.ListN.{length, getD, drop};
 ghost use lib.Dec.{leb, eqb};
 ghost use Rattle.forms.specs.Bytes.{toBytes, within, all, leads};
-ghost use Rattle.forms.specs.Fields.{allRight};
-ghost use Rattle.forms.specs.Profile.{handlingOf, criterionOf, criterionAt, numberFields, senseRight, listAt, listEnd, numberAt, numbersAt, numbersEnd, viewAt, profileOf, readProfile, matches, someMatches};
+ghost use Rattle.forms.specs.Fields.{allInRange};
+ghost use Rattle.forms.specs.Profile.{handlingOf, criterionOf, criterionAt, numberFields, senseInRange, listAt, listEnd, numberAt, numbersAt, numbersEnd, viewAt, profileOf, readProfile, matches, someMatches};
 use crate::bytes;
 use crate::units::Seconds;
 
@@ -39,7 +39,7 @@ pub enum ReadProfile {
 
 // Stored numbers: whether all are in range, and the place after them.
 pub(crate) struct Numbers {
-    pub right: bool,
+    pub in_range: bool,
     pub end: usize,
 }
 
@@ -72,8 +72,8 @@ fn criterion_at(s: &[u8], q: usize) -> Criterion
     criterion_of(n == 1, n == 2)
 }
 
-fn sense_right(sense: Criterion, total: usize) -> bool
-    ensures { λ r. ⌜ r ≡ senseRight sense total ⌝ }
+fn sense_in_range(sense: Criterion, total: usize) -> bool
+    ensures { λ r. ⌜ r ≡ senseInRange sense total ⌝ }
 {
     match sense {
         Criterion::Absent => total == 0,
@@ -98,9 +98,9 @@ fn list_end(s: &[u8], q: usize) -> usize
 }
 
 // The stored number at place q is in range.
-fn number_right(s: &[u8], q: usize) -> bool
+fn number_in_range(s: &[u8], q: usize) -> bool
     requires { ⌜ q ≤ 70000 ⌝ }
-    ensures { λ r. ⌜ r ≡ allRight (numberFields (numberAt (now (s .entry)) q ∷ [])) ⌝ }
+    ensures { λ r. ⌜ r ≡ allInRange (numberFields (numberAt (now (s .entry)) q ∷ [])) ⌝ }
 {
     let digits = list_at(s, q + 1);
     let n = digits.len();
@@ -111,17 +111,17 @@ fn number_right(s: &[u8], q: usize) -> bool
 
 // The n stored numbers.
 fn walk_numbers(s: &[u8], n: u8) -> Numbers
-    ensures { λ r. ⌜ ((r .right ≡ allRight (numberFields (numbersAt n (now (s .entry)) 7))) × (r .end ≡ numbersEnd n (now (s .entry)) 7)) × (r .end ≤ 65542) ⌝ }
+    ensures { λ r. ⌜ ((r .in_range ≡ allInRange (numberFields (numbersAt n (now (s .entry)) 7))) × (r .end ≡ numbersEnd n (now (s .entry)) 7)) × (r .end ≤ 65542) ⌝ }
 {
     let mut left = n;
-    let mut right = true;
+    let mut in_range = true;
     let mut q: usize = 7;
     while 0 < left {
-        right = right & number_right(s, q);
+        in_range = in_range & number_in_range(s, q);
         q = list_end(s, q + 1);
         left -= 1;
     }
-    Numbers { right, end: q }
+    Numbers { in_range, end: q }
 }
 
 // The values at their places, the numbers ending at l.
@@ -151,7 +151,7 @@ fn is_written(s: &[u8], v: usize) -> bool
     let f = list_end(s, v);
     let n = s.len();
     let start = [(n / 256 % 256) as u8, (n % 256) as u8, 1];
-    bytes::leading(&start, s)
+    bytes::leads(&start, s)
         & (bytes::at(s, 3) <= 1)
         & (bytes::at(s, 5) <= 2)
         & (bytes::at(s, f) <= 2)
@@ -159,8 +159,8 @@ fn is_written(s: &[u8], v: usize) -> bool
 }
 
 // The single fields and the lists are in range; so are the numbers, where `numbers` says so.
-fn is_right(s: &[u8], p: ProfileView, numbers: bool) -> bool
-    ensures { λ r. ⌜ r ≡ ((within 10 180 (p .timer .0) && leb (getD (now (s .entry)) 6 0) 10 && numbers && leb (length (listAt (now (s .entry)) (p .lengths))) 3 && all (within 1 15) (listAt (now (s .entry)) (p .lengths)) && leb (length (listAt (now (s .entry)) (p .services))) 5) && senseRight (p .sense) (getD (now (s .entry)) 6 0 + length (listAt (now (s .entry)) (p .lengths)))) ⌝ }
+fn is_in_range(s: &[u8], p: ProfileView, numbers: bool) -> bool
+    ensures { λ r. ⌜ r ≡ ((within 10 180 (p .timer .0) && leb (getD (now (s .entry)) 6 0) 10 && numbers && leb (length (listAt (now (s .entry)) (p .lengths))) 3 && all (within 1 15) (listAt (now (s .entry)) (p .lengths)) && leb (length (listAt (now (s .entry)) (p .services))) 5) && senseInRange (p .sense) (getD (now (s .entry)) 6 0 + length (listAt (now (s .entry)) (p .lengths)))) ⌝ }
 {
     let timer = p.timer.0;
     let sense = p.sense;
@@ -173,7 +173,7 @@ fn is_right(s: &[u8], p: ProfileView, numbers: bool) -> bool
         & (lengths.len() <= 3)
         & bytes::all_within(lengths, 1, 15)
         & (services.len() <= 5)
-        & sense_right(sense, bytes::size(n) + lengths.len())
+        & sense_in_range(sense, bytes::size(n) + lengths.len())
 }
 
 // The profile that the bytes are, or refusal 2.
@@ -182,7 +182,7 @@ pub fn read_profile(s: &[u8]) -> ReadProfile
 {
     let w = walk_numbers(s, bytes::at(s, 6));
     let p = view_at(s, w.end);
-    if is_written(s, p.services) & is_right(s, p, w.right) {
+    if is_written(s, p.services) & is_in_range(s, p, w.in_range) {
         ReadProfile::Profile(p)
     } else {
         ReadProfile::Refused(2)
@@ -193,7 +193,7 @@ fn match_at(s: &[u8], q: usize, nature: u8, dialled: &[u8]) -> bool
     requires { ⌜ q ≤ 70000 ⌝ }
     ensures { λ r. ⌜ r ≡ matches (numberAt (now (s .entry)) q) nature (now (dialled .entry)) ⌝ }
 {
-    (bytes::at(s, q) == nature) & bytes::leading(list_at(s, q + 1), dialled)
+    (bytes::at(s, q) == nature) & bytes::leads(list_at(s, q + 1), dialled)
 }
 
 // Some stored number of the profile matches the dialled one.

@@ -6,8 +6,8 @@ ghost use Rattle.forms.specs.Item.{readItemAt, readEntry};
 use crate::bytes;
 use crate::item::ReadEntry;
 use crate::item::ReadItem;
-use crate::item::entry_at;
-use crate::item::item_at;
+use crate::item::read_entry;
+use crate::item::read_item_at;
 
 pub struct Reader<'a> {
     pub src: &'a [u8],
@@ -26,7 +26,7 @@ impl<'a> Reader<'a> {
     pub fn item(self) -> ReadItem
         ensures { λ r. ⌜ r ≡ readItemAt (now (self .entry .src)) (self .entry .at) ⌝ }
     {
-        item_at(self.src, self.at)
+        read_item_at(self.src, self.at)
     }
 
     // What is left from the place on, digits or entries: a part of the lent bytes.
@@ -40,6 +40,6 @@ impl<'a> Reader<'a> {
     pub fn entry(self) -> ReadEntry
         ensures { λ r. ⌜ r ≡ readEntry (now (self .entry .src)) (self .entry .at) ⌝ }
     {
-        entry_at(self.src, self.at)
+        read_entry(self.src, self.at)
     }
 }

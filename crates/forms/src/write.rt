@@ -65,7 +65,7 @@ pub fn write_item(item: Item, t: &[u8], d: &mut [u8]) -> Written
     let body = item.body;
     let f = item::fixed_of(body);
     let n = item::rest_at(f) + t.len();
-    if item::item_right(item, f, t) {
+    if item::item_in_range(item, f, t) {
         if n <= d.len() {
             put_item(d, item, f, n, t);
             Written::Length(n)

@@ -13,7 +13,7 @@ returns-2 c =
     let o = r .before .before in
     let f = r .before .fixed-of .ensures in
     let i = o .item-of .result in
-    rw (← o .item-of .ensures, is-item i _ f _ (o .item-of .ensures) (λ k. o .before .before .shared-slice-known .given k .fits) (o .before .if1 .left), rest-at i _ f, ← r .rest-at .ensures .0, ← c .before .before .from .ensures, ← c .before .before .before .starts .ensures, ← c .before .item-right .ensures, c .if2 .taken)
+    rw (← o .item-of .ensures, is-item i _ f _ (o .item-of .ensures) (λ k. o .before .before .shared-slice-known .given k .fits) (o .before .if1 .left), rest-at i _ f, ← r .rest-at .ensures .0, ← c .before .before .from .ensures, ← c .before .before .before .starts .ensures, ← c .before .item-in-range .ensures, c .if2 .taken)
 
 returns-3 : tie.Need-returns-3
 unfolding readItem
@@ -22,7 +22,7 @@ returns-3 c =
     let o = r .before .before in
     let f = r .before .fixed-of .ensures in
     let i = o .item-of .result in
-    rw (← o .item-of .ensures, is-item i _ f _ (o .item-of .ensures) (λ k. o .before .before .shared-slice-known .given k .fits) (o .before .if1 .left), ← r .rest-at .ensures .0, ← c .before .before .from .ensures, ← c .before .before .before .starts .ensures, ← c .before .item-right .ensures, c .if2 .left)
+    rw (← o .item-of .ensures, is-item i _ f _ (o .item-of .ensures) (λ k. o .before .before .shared-slice-known .given k .fits) (o .before .if1 .left), ← r .rest-at .ensures .0, ← c .before .before .from .ensures, ← c .before .before .before .starts .ensures, ← c .before .item-in-range .ensures, c .if2 .left)
 
 pub read-item-spec : {M : Type 1} → statement M
 read-item-spec =

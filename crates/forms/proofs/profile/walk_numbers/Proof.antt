@@ -3,18 +3,18 @@ use borrow.Author.Needs.{needs}
 use Prim.Native.Nat.{_≤_, _+_, _*_}
 use mathlib.Core.Path.{_≡_, _∙_}
 use mathlib.Core.Bool.{_&&_, and-true}
-use Rattle.forms.specs.Fields.{allRight}
+use Rattle.forms.specs.Fields.{allInRange}
 use Rattle.forms.specs.Profile.{numberFields, numbersAt, numbersEnd}
-use Rattle.forms.proofs.ProfileLaws.{numbers-none, end-next, end-none, right-next}
+use Rattle.forms.proofs.ProfileLaws.{numbers-none, end-next, end-none, in-range-next}
 use Rattle.forms.proofs.profile.walk_numbers.Statement.{statement}
 use Rattle.forms.proofs.profile.walk_numbers.Tie as tie
 
 abbrev Inv-loop : tie.InvT-loop
-Inv-loop s n left₀ right₀ q₀ left right q =
-    ((q + 257 * left ≤ 65542) × ((right && allRight (numberFields (numbersAt left s q))) ≡ allRight (numberFields (numbersAt n s 7)))) × (numbersEnd left s q ≡ numbersEnd n s 7)
+Inv-loop s n left₀ ok₀ q₀ left ok q =
+    ((q + 257 * left ≤ 65542) × ((ok && allInRange (numberFields (numbersAt left s q))) ≡ allInRange (numberFields (numbersAt n s 7)))) × (numbersEnd left s q ≡ numbersEnd n s 7)
 
 abbrev μ-loop : tie.MeasureT-loop
-μ-loop s n left₀ right₀ q₀ left right q = left
+μ-loop s n left₀ ok₀ q₀ left ok q = left
 
 loop-again : tie.Need-loop-again Inv-loop μ-loop
 loop-again c =
@@ -22,7 +22,7 @@ loop-again c =
     let s = c .before .before .before .before .before .args .s .now in
     let h = c .before .before .loop-test .taken in
     let e = c .list-end .ensures .0 in
-    ((search needs, rw (c .before .number-right .ensures, e) (right-next s (l .q) (l .right) (l .left) h ∙ l .inv .0 .1)), rw (e, ← end-next s (l .q) (l .left) h) (l .inv .1))
+    ((search needs, rw (c .before .number-in-range .ensures, e) (in-range-next s (l .q) (l .in-range) (l .left) h ∙ l .inv .0 .1)), rw (e, ← end-next s (l .q) (l .left) h) (l .inv .1))
 
 returns : tie.Need-returns Inv-loop μ-loop
 returns c =

@@ -1,9 +1,9 @@
 use borrow.Author.Needs.{needs}
-use Rattle.forms.proofs.item.rest_right.Statement.{statement}
-use Rattle.forms.proofs.item.rest_right.Tie as tie
+use Rattle.forms.proofs.item.rest_in_range.Statement.{statement}
+use Rattle.forms.proofs.item.rest_in_range.Tie as tie
 
-pub rest-right-spec : {M : Type 1} → statement M
-rest-right-spec =
+pub rest-in-range-spec : {M : Type 1} → statement M
+rest-in-range-spec =
     tie.close
     (tie.spec
     (λ c. search needs) (λ c. search needs) (λ c. search needs) (λ c κs. search needs) (λ c. search needs) (λ c. search needs)

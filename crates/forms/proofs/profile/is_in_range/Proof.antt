@@ -1,9 +1,9 @@
 use borrow.Author.Needs.{needs}
-use Rattle.forms.proofs.profile.is_right.Statement.{statement}
-use Rattle.forms.proofs.profile.is_right.Tie as tie
+use Rattle.forms.proofs.profile.is_in_range.Statement.{statement}
+use Rattle.forms.proofs.profile.is_in_range.Tie as tie
 
-pub is-right-spec : {M : Type 1} → statement M
-is-right-spec =
+pub is-in-range-spec : {M : Type 1} → statement M
+is-in-range-spec =
     tie.close
     (tie.spec
     (λ c κs. search needs) (λ c κs. search needs) (λ c κs. search needs) (λ c κs. search needs) (λ c κs. search needs) (λ c. search needs)

@@ -7,8 +7,8 @@ use lib.Dec.{lit<}
 use lib.ListN.{drop-of-length-le}
 use Rattle.forms.specs.Item.{readItemAt}
 use Rattle.forms.proofs.ItemLaws.{read-short, place-small}
-use Rattle.forms.proofs.item.item_at.Statement.{statement}
-use Rattle.forms.proofs.item.item_at.Tie as tie
+use Rattle.forms.proofs.item.read_item_at.Statement.{statement}
+use Rattle.forms.proofs.item.read_item_at.Tie as tie
 
 returns : tie.Need-returns
 unfolding readItemAt
@@ -27,8 +27,8 @@ returns-3 : tie.Need-returns-3
 unfolding readItemAt
 returns-3 c = rw (← c .before .before .before .before .from .ensures, ← c .before .before .before .read-item .ensures, c .before .r2 .given .1)
 
-pub item-at-spec : {M : Type 1} → statement M
-item-at-spec =
+pub read-item-at-spec : {M : Type 1} → statement M
+read-item-at-spec =
     tie.close
     (tie.spec
     returns (λ c κs. search needs) (λ c κs. search needs) (λ c. search needs) add-place (λ c. search needs) returns-2 returns-3)

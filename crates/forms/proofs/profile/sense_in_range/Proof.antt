@@ -1,9 +1,9 @@
 use borrow.Author.Needs.{needs}
-use Rattle.forms.proofs.profile.sense_right.Statement.{statement}
-use Rattle.forms.proofs.profile.sense_right.Tie as tie
+use Rattle.forms.proofs.profile.sense_in_range.Statement.{statement}
+use Rattle.forms.proofs.profile.sense_in_range.Tie as tie
 
-pub sense-right-spec : {M : Type 1} → statement M
-sense-right-spec =
+pub sense-in-range-spec : {M : Type 1} → statement M
+sense-in-range-spec =
     tie.close
     (tie.spec
     (λ c. search needs) (λ c. search needs) (λ c. search needs) (λ c. rw (c .enum-told .given .1)) (λ c. rw (c .enum-told2 .given .1))

@@ -1,12 +1,12 @@
--- `forms::bytes::has` meets its contract.
+-- `forms::bytes::contains` meets its contract.
 use borrow.Author.Needs.{needs}
 use Prim.Native.Nat.{_≤_, _-_}
 use mathlib.Core.Path.{_≡_, sym, _∙_}
 use lib.ListN.{length, drop}
 use Rattle.forms.specs.Bytes.{contains}
 use Rattle.forms.proofs.ByteLaws.{contains-end, contains-stop, contains-step}
-use Rattle.forms.proofs.bytes.has.Statement.{statement}
-use Rattle.forms.proofs.bytes.has.Tie as tie
+use Rattle.forms.proofs.bytes.contains.Statement.{statement}
+use Rattle.forms.proofs.bytes.contains.Tie as tie
 
 abbrev Inv-loop : tie.InvT-loop
 Inv-loop t x i₀ i = (i ≤ length t) × (contains x (drop i t) ≡ contains x t)
@@ -23,8 +23,8 @@ loop-again c = (search needs, contains-step _ _ _ (c .before .before .before .lo
 returns-2 : tie.Need-returns-2 Inv-loop μ-loop
 returns-2 c = sym (contains-end _ _ _ (c .loop-test .left)) ∙ c .before .loop .inv .1
 
-pub has-spec : {M : Type 1} → statement M
-has-spec =
+pub contains-spec : {M : Type 1} → statement M
+contains-spec =
     tie.close
     (tie.spec
     Inv-loop

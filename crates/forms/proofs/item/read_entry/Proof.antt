@@ -4,8 +4,8 @@ use mathlib.Core.Path.{ap}
 use native.Mathlib.Omega.{arith}
 use lib.ListN.{length, length-drop}
 use Rattle.forms.specs.Item.{readEntry}
-use Rattle.forms.proofs.item.entry_at.Statement.{statement}
-use Rattle.forms.proofs.item.entry_at.Tie as tie
+use Rattle.forms.proofs.item.read_entry.Statement.{statement}
+use Rattle.forms.proofs.item.read_entry.Tie as tie
 
 add-next : tie.Need-add-t8
 add-next c = record { fits = omega (arith, c .before .if1 .taken, simp length-drop at (ap length (c .before .before .from .ensures))) }
@@ -20,5 +20,5 @@ returns-2 : tie.Need-returns-2
 unfolding readEntry
 returns-2 c = rw (← c .before .from .ensures, lt-leb _ _ (c .if1 .left))
 
-pub entry-at-spec : {M : Type 1} → statement M
-entry-at-spec = tie.close (tie.spec (λ c κs. search needs) (λ c κs. search needs) add-next returns returns-2)
+pub read-entry-spec : {M : Type 1} → statement M
+read-entry-spec = tie.close (tie.spec (λ c κs. search needs) (λ c κs. search needs) add-next returns returns-2)

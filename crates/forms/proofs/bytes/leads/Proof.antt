@@ -1,12 +1,12 @@
--- `forms::bytes::leading` meets its contract.
+-- `forms::bytes::leads` meets its contract.
 use borrow.Author.Needs.{needs}
 use Prim.Native.Nat.{_≤_, _-_}
 use mathlib.Core.Path.{_≡_, sym, _∙_}
 use lib.ListN.{length, drop}
 use Rattle.forms.specs.Bytes.{leads}
 use Rattle.forms.proofs.ByteLaws.{leads-end, leads-short, leads-stop, leads-step}
-use Rattle.forms.proofs.bytes.leading.Statement.{statement}
-use Rattle.forms.proofs.bytes.leading.Tie as tie
+use Rattle.forms.proofs.bytes.leads.Statement.{statement}
+use Rattle.forms.proofs.bytes.leads.Tie as tie
 
 abbrev Inv-loop : tie.InvT-loop
 Inv-loop a d i₀ i = (i ≤ length a) × (leads (drop i a) (drop i d) ≡ leads a d)
@@ -26,8 +26,8 @@ loop-again c = (search needs, leads-step _ _ _ (c .before .before .before .befor
 returns-3 : tie.Need-returns-3 Inv-loop μ-loop
 returns-3 c = let a = c .before .before .args in sym (leads-end (a .a .now) (a .d .now) _ (c .loop-test .left)) ∙ c .before .loop .inv .1
 
-pub leading-spec : {M : Type 1} → statement M
-leading-spec =
+pub leads-spec : {M : Type 1} → statement M
+leads-spec =
     tie.close
     (tie.spec
     Inv-loop

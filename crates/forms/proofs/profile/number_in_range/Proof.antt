@@ -1,10 +1,10 @@
 use borrow.Author.Needs.{needs}
 use mathlib.Core.Bool.{and-true, and-assoc}
-use Rattle.forms.proofs.profile.number_right.Statement.{statement}
-use Rattle.forms.proofs.profile.number_right.Tie as tie
+use Rattle.forms.proofs.profile.number_in_range.Statement.{statement}
+use Rattle.forms.proofs.profile.number_in_range.Tie as tie
 
-pub number-right-spec : {M : Type 1} → statement M
-number-right-spec =
+pub number-in-range-spec : {M : Type 1} → statement M
+number-in-range-spec =
     tie.close
     (tie.spec
     (λ c. search needs) (λ c κs. search needs) (λ c κs. search needs) (λ c κs. search needs) (λ c κs. search needs)
