@@ -12,7 +12,6 @@ use Rattle.forms.specs.Bytes.{toBytes, fromBytes, within, leads, same}
 use Rattle.forms.specs.Units.{clockEnd}
 use Rattle.forms.specs.Fields.{allInRange, framed}
 use Rattle.forms.specs.Item.{formOf, fieldBytes, restInRange, itemBytes, itemInRange, restAt, restOf, itemOf, isItem, readItem, headOf, pad, fixedOf}
-use Rattle.forms.specs.Write.{itemLength}
 use Rattle.forms.specs.declared.item.Body.{Body}
 use Rattle.forms.specs.declared.item.Body.the-variants as B
 use Rattle.forms.specs.declared.item.Rest.{Rest}
@@ -74,7 +73,7 @@ fields-back b = pad-back 5 (fieldBytes b) (small b .0)
 
 module _ (i : Item) (t : List ℕ) where
   -- an item's bytes are its first 14, its fields, and its digits or entries
-  pub item-parts : itemBytes i t ≡ headOf (itemLength i t) (formOf (i .body) .kind) (i .call) (i .time .0) ++ fieldBytes (i .body) ++ t
+  pub item-parts : itemBytes i t ≡ headOf (restAt (i .body) + length t) (formOf (i .body) .kind) (i .call) (i .time .0) ++ fieldBytes (i .body) ++ t
   unfolding itemBytes restAt
   item-parts =
       let f = fieldBytes (i .body) in
@@ -82,7 +81,7 @@ module _ (i : Item) (t : List ℕ) where
       let n : 3 + length b ≡ 14 + length f + length t = omega (arith, length-append f t) in
       rw n
 
-  pub item-length : length (itemBytes i t) ≡ itemLength i t
+  pub item-length : length (itemBytes i t) ≡ restAt (i .body) + length t
   unfolding restAt
   item-length = rw item-parts (simp length-append)
 

@@ -24,7 +24,7 @@ use Rattle.forms.proofs.ItemLaws.{item-size, item-parts, item-length}
 
 -- ---- what is written reads back the same
 
-period-back : (p : Tenths) (t : List ℕ) → isPeriod (p .0) ≡ true → fromBytes 4 (toBytes 4 (p .0) ++ t) ≡ p .0
+period-back : (p : Tenths) (t : List ℕ) → isPeriod p ≡ true → fromBytes 4 (toBytes 4 (p .0) ++ t) ≡ p .0
 period-back p t h = number-back 4 (p .0) t (omega (arith, leb-true (p .0) 864000 (and-right (leb 1 (p .0)) _ h)))
 
 -- each kind's bytes name its values
@@ -47,8 +47,8 @@ body-back (B.RequestReport c) t h = refl
 body-back B.Continue t h = refl
 body-back (B.Connect n c) t h = refl
 body-back B.Release t h = refl
-body-back (B.ApplyCharging One p) t h = ap (λ (x : ℕ). B.ApplyCharging One (record { 0 = x })) (period-back p t (and-left (isPeriod (p .0)) true h))
-body-back (B.ApplyCharging Two p) t h = ap (λ (x : ℕ). B.ApplyCharging Two (record { 0 = x })) (period-back p t (and-left (isPeriod (p .0)) true h))
+body-back (B.ApplyCharging One p) t h = ap (λ (x : ℕ). B.ApplyCharging One (record { 0 = x })) (period-back p t (and-left (isPeriod p) true h))
+body-back (B.ApplyCharging Two p) t h = ap (λ (x : ℕ). B.ApplyCharging Two (record { 0 = x })) (period-back p t (and-left (isPeriod p) true h))
 body-back B.ActivityTest t h = refl
 body-back B.Abort t h = refl
 

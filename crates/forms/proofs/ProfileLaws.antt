@@ -10,10 +10,10 @@ use native.Mathlib.Omega.{arith}
 use borrow.Author.Tests.{eq-eqb, ne-eqb, lt-leb}
 use lib.ListN.{length, getD, take, drop, drop-of-length-le}
 use lib.Seq.{drop-cons, drop-drop, getD-drop, length-take-le, take-all}
-use lib.Dec.{leb, eqb}
+use lib.Dec.{leb, eqb, leb·zero}
 use Rattle.forms.specs.Bytes.{toBytes, within, part, all, leads, same}
 use Rattle.forms.specs.Fields.{Field, bytesIn, allInRange}
-use Rattle.forms.specs.Profile.{handlingNumber, criterionNumber, count, numberFields, listFields, fieldsOf, profileBytes, senseInRange, profileInRange, handlingOf, criterionOf, listAt, listEnd, numberAt, numbersAt, numbersEnd, viewAt, viewOf, profileOf}
+use Rattle.forms.specs.Profile.{handlingNumber, criterionNumber, numberFields, listFields, fieldsOf, profileBytes, senseInRange, profileInRange, handlingOf, criterionOf, listAt, listEnd, numberAt, numbersAt, numbersEnd, viewAt, viewOf, profileOf}
 use Rattle.forms.specs.declared.profile.ProfileView.{ProfileView}
 use Rattle.forms.proofs.ByteLaws.{below-or-past, framed-same}
 
@@ -27,7 +27,7 @@ pub in-range-both : (a b : List Field) → allInRange (a ++ b) ≡ (allInRange a
 in-range-both [] b = refl
 in-range-both (f ∷ a) b = rw (in-range-both a b, and-assoc)
 
-pub counts : (n : ℕ) (s : List ℕ) (q : ℕ) → count (numbersAt n s q) ≡ n
+pub counts : (n : ℕ) (s : List ℕ) (q : ℕ) → length (numbersAt n s q) ≡ n
 unfolding numbersAt
 counts zero s q = refl
 counts (suc n) s q = ap suc (counts n s (listEnd s (q + 1)))
@@ -137,11 +137,11 @@ module _ (s : List ℕ) (p : ProfileView) (e : p ≡ viewOf s) where
       (rw (cell s (getD s 4 0 ∷ c ∷ n ∷ w₁) refl 3 h, cell s (c ∷ n ∷ w₁) refl 4 (getD s 4 0), eq-eqb (getD s 4 0) (getD s 4 0) refl, cell s (n ∷ w₁) refl 5 c, cell s w₁ (same-none (bytesIn fs) w₂ refl) 6 n, eq-eqb n n refl)
       (rw (numbers-same s w₂ refl n 7, list-same s w₃ refl l, list-same s w₄ refl v, last-same (criterionNumber (profileOf s .forwarding)) s f, handling-is (getD s 3 0), criterion-is (getD s 5 0), criterion-is (getD s f 0)) (simp and-assoc)))
 
-  pub profile-right : profileInRange (profileOf s)
+  pub profile-in-range : profileInRange (profileOf s)
       ≡ ((within 10 180 (p .timer .0) && leb n 10 && allInRange (numberFields (numbersAt n s 7)) && leb (length (listAt s (p .lengths))) 3 && all (within 1 15) (listAt s (p .lengths)) && leb (length (listAt s (p .services))) 5)
       && senseInRange (p .sense) (n + length (listAt s (p .lengths))))
   unfolding profileInRange fieldsOf profileOf viewAt
-  profile-right = rw (e, in-range-both (numberFields (numbersAt n s 7)) (listFields (profileOf s)), counts n s 7) (simp (and-assoc, and-true))
+  profile-in-range = rw (e, in-range-both (numberFields (numbersAt n s 7)) (listFields (profileOf s)), counts n s 7) (simp (leb·zero, and-assoc, and-true))
 
 -- ---- the loops over the numbers: one more, and none left
 

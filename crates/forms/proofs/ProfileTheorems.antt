@@ -10,7 +10,7 @@ use lib.Seq.{drop-drop, take-append-seam, drop-append-seam}
 use lib.Dec.{leb, eqb}
 use Rattle.forms.specs.Bytes.{within, all, same}
 use Rattle.forms.specs.Fields.{bytesIn, allInRange}
-use Rattle.forms.specs.Profile.{Number, Profile, handlingNumber, criterionNumber, count, numberFields, listFields, fieldsOf, profileBytes, senseInRange, profileInRange, handlingOf, criterionOf, listAt, listEnd, numbersAt, numbersEnd, viewAt, viewOf, profileOf, isProfile, readProfile}
+use Rattle.forms.specs.Profile.{Number, Profile, handlingNumber, criterionNumber, numberFields, listFields, fieldsOf, profileBytes, senseInRange, profileInRange, handlingOf, criterionOf, listAt, listEnd, numbersAt, numbersEnd, viewAt, viewOf, profileOf, isProfile, readProfile}
 use Rattle.forms.specs.declared.profile.Handling.{Handling}
 use Rattle.forms.specs.declared.profile.Handling.the-variants as H
 use Rattle.forms.specs.declared.profile.Criterion.{Criterion}
@@ -41,7 +41,7 @@ module _ (s : List ℕ) where
       let n = next-at q (length l) (l ++ w) e in
       (rw (n .0, n .1) (take-append-seam l w), rw (← drop-drop (getD s q 0) (q + 1) s, n .0, n .1) (drop-append-seam l w))
 
-  numbers-back : (ns : List Number) (q : ℕ) (w : List ℕ) → drop q s ≡ bytesIn (numberFields ns) ++ w → (numbersAt (count ns) s q ≡ ns) × (drop (numbersEnd (count ns) s q) s ≡ w)
+  numbers-back : (ns : List Number) (q : ℕ) (w : List ℕ) → drop q s ≡ bytesIn (numberFields ns) ++ w → (numbersAt (length ns) s q ≡ ns) × (drop (numbersEnd (length ns) s q) s ≡ w)
   unfolding numbersAt numbersEnd
   numbers-back [] q w e = (refl, e)
   numbers-back (x ∷ ns) q w e =
@@ -60,7 +60,7 @@ module _ (p : Profile) where
       let f = criterionNumber (p .forwarding) ∷ [] in
       let v = length (p .services) ∷ (p .services ++ f) in
       let n = numbers-back s (p .numbers) 7 (bytesIn (listFields p)) (bytes-both (numberFields (p .numbers)) (listFields p)) in
-      let q = numbersEnd (count (p .numbers)) s 7 in
+      let q = numbersEnd (length (p .numbers)) s 7 in
       let l = list-back s q (p .lengths) v (n .1) in
       let r = list-back s (listEnd s q) (p .services) f (l .1) in
       let c = next-at s (listEnd s (listEnd s q)) (criterionNumber (p .forwarding)) [] (r .1) in
@@ -92,7 +92,7 @@ one-run s r v w hs hr e = sym (one-form s v hs) ∙ ap profileBytes e ∙ one-fo
 
 -- ---- sizes
 
-numbers-size : (ns : List Number) → allInRange (numberFields ns) ≡ true → length (bytesIn (numberFields ns)) ≤ 17 * count ns
+numbers-size : (ns : List Number) → allInRange (numberFields ns) ≡ true → length (bytesIn (numberFields ns)) ≤ 17 * length ns
 numbers-size [] h = omega arith
 numbers-size (x ∷ ns) h =
     let d = length (x .digits) in
@@ -107,14 +107,14 @@ size p h =
     let ns = numberFields (p .numbers) in
     let l = length (p .lengths) in
     let v = length (p .services) in
-    let ok = and-right (within 10 180 (p .timer)) _ (and-left _ (senseInRange (p .sense) (count (p .numbers) + l)) h) in
-    let both : (allInRange ns && allInRange (listFields p)) ≡ true = sym (in-range-both ns (listFields p)) ∙ and-right (leb (count (p .numbers)) 10) _ ok in
+    let ok = and-right (within 10 180 (p .timer .0)) _ (and-left _ (senseInRange (p .sense) (length (p .numbers) + l)) h) in
+    let both : (allInRange ns && allInRange (listFields p)) ≡ true = sym (in-range-both ns (listFields p)) ∙ and-right (within 0 10 (length (p .numbers))) _ ok in
     let lists = and-right (allInRange ns) _ both in
-    let after = and-right (all (within 1 15) (p .lengths)) _ (and-right (leb l 3) _ lists) in
-    let m₁ = leb-true (count (p .numbers)) 10 (and-left (leb (count (p .numbers)) 10) _ ok) in
+    let after = and-right (all (within 1 15) (p .lengths)) _ (and-right (within 0 3 l) _ lists) in
+    let m₁ = leb-true (length (p .numbers)) 10 (and-right (leb 0 (length (p .numbers))) _ (and-left (within 0 10 (length (p .numbers))) _ ok)) in
     let m₂ = numbers-size (p .numbers) (and-left (allInRange ns) _ both) in
-    let m₃ = leb-true l 3 (and-left (leb l 3) _ lists) in
-    let m₄ = leb-true v 5 (and-left (leb v 5) _ after) in
+    let m₃ = leb-true l 3 (and-right (leb 0 l) _ (and-left (within 0 3 l) _ lists)) in
+    let m₄ = leb-true v 5 (and-right (leb 0 v) _ (and-left (within 0 5 v) _ after)) in
     rw (bytes-both ns (listFields p), length-append (bytesIn ns) (bytesIn (listFields p)), length-append (p .lengths) (v ∷ (p .services ++ (criterionNumber (p .forwarding) ∷ []))), length-append (p .services) (criterionNumber (p .forwarding) ∷ [])) (omega arith, omega arith)
 
 -- a profile is 10 to 188 bytes long

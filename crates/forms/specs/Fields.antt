@@ -67,7 +67,7 @@ entryCount n = byte n (within 1 10 n)
 
 -- period (4 bytes) 1..864000
 abbrev pub period : Tenths → Field
-period p = run (toBytes 4 (p .0)) (isPeriod (p .0))
+period p = run (toBytes 4 (p .0)) (isPeriod p)
 
 -- the fields one after the other, and all of them in range
 abbrev pub bytesIn : List Field → List ℕ

@@ -6,6 +6,7 @@ use lib.ListN.{length, getD}
 use lib.Dec.{leb, eqb}
 use Rattle.forms.specs.Bytes.{within, part, all, leads, same}
 use Rattle.forms.specs.Fields.{Field, byte, run, nature, digitCount, digits, bytesIn, allInRange, framed}
+use Rattle.forms.specs.declared.units.Seconds.{Seconds}
 use Rattle.forms.specs.declared.profile.Handling.{Handling}
 use Rattle.forms.specs.declared.profile.Handling.the-variants as H
 use Rattle.forms.specs.declared.profile.Criterion.{Criterion}
@@ -22,7 +23,7 @@ pub record Number : Type 0 where
 
 pub record Profile : Type 0 where
   pub handling : Handling
-  pub timer : ℕ
+  pub timer : Seconds
   pub sense : Criterion
   pub numbers : List Number
   pub lengths : List ℕ
@@ -44,11 +45,7 @@ criterionNumber C.Inhibiting = 2
 
 -- a count of at most n
 abbrev pub upTo : ℕ → ℕ → Field
-upTo n count = byte count (leb count n)
-
-abbrev pub count : List Number → ℕ
-count [] = 0
-count (n ∷ ns) = suc (count ns)
+upTo n count = byte count (within 0 n count)
 
 -- "each nature, digit count and digits as in Setup"
 abbrev pub numberFields : List Number → List Field
@@ -67,9 +64,9 @@ listFields p =
 unfoldable pub fieldsOf : Profile → List Field
 fieldsOf p =
     byte (handlingNumber (p .handling)) true
-    ∷ byte (p .timer) (within 10 180 (p .timer))
+    ∷ byte (p .timer .0) (within 10 180 (p .timer .0))
     ∷ byte (criterionNumber (p .sense)) true
-    ∷ upTo 10 (count (p .numbers))
+    ∷ upTo 10 (length (p .numbers))
     ∷ numberFields (p .numbers) ++ listFields p
 
 unfoldable pub profileBytes : Profile → List ℕ
@@ -82,7 +79,7 @@ senseInRange C.Enabling total = leb 1 total
 senseInRange C.Inhibiting total = leb 1 total
 
 unfoldable pub profileInRange : Profile → Bool
-profileInRange p = allInRange (fieldsOf p) && senseInRange (p .sense) (count (p .numbers) + length (p .lengths))
+profileInRange p = allInRange (fieldsOf p) && senseInRange (p .sense) (length (p .numbers) + length (p .lengths))
 
 -- ---- reading: the values at their places
 
@@ -135,7 +132,7 @@ profileOf s =
     let w = viewOf s in
     record {
       handling = w .handling;
-      timer = w .timer .0;
+      timer = w .timer;
       sense = w .sense;
       numbers = numbersAt (getD s 6 0) s 7;
       lengths = listAt s (w .lengths);

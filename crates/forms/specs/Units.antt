@@ -22,18 +22,18 @@ abbrev pub clockEnd : ℕ
 clockEnd = 281474976710656
 
 -- a charged period (maxCallPeriodDuration)
-abbrev pub isPeriod : ℕ → Bool
-isPeriod = within 1 longestPeriod
+abbrev pub isPeriod : Tenths → Bool
+isPeriod p = within 1 longestPeriod (p .0)
 
 abbrev pub periodOf : ℕ → Period
-periodOf n = cond (isPeriod n) (P.Of (record { 0 = n })) (P.Refused 1)
+periodOf n = let p : Tenths = record { 0 = n } in cond (isPeriod p) (P.Of p) (P.Refused 1)
 
 -- a no-answer timer (TNRy), 0 for none
-abbrev pub isTimer : ℕ → Bool
-isTimer n = leb n longestTimer
+abbrev pub isTimer : Seconds → Bool
+isTimer t = leb (t .0) longestTimer
 
 abbrev pub timerOf : ℕ → Timer
-timerOf n = cond (isTimer n) (T.Of (record { 0 = n })) (T.Refused 11)
+timerOf n = let t : Seconds = record { 0 = n } in cond (isTimer t) (T.Of t) (T.Refused 11)
 
 -- "the only way across is seconds × 10 = tenths"
 abbrev pub tenthsOf : Seconds → Tenths

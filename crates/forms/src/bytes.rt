@@ -76,12 +76,12 @@ pub(crate) fn all_within(s: &[u8], low: u8, high: u8) -> bool
 }
 
 // Some byte is x.
-pub fn contains(t: &[u8], x: usize) -> bool
+pub fn contains(t: &[u8], x: u8) -> bool
     ensures { λ r. ⌜ r ≡ contains x (now (t .entry)) ⌝ }
 {
     let mut i = 0;
     while i < t.len() {
-        if size(t[i]) == x {
+        if t[i] == x {
             return true;
         }
         i += 1;

@@ -332,7 +332,7 @@ fn entry_of(e: &[u8]) -> Entry
         point: bytes::at(e, 0),
         leg: bytes::at(e, 1),
         mode: bytes::at(e, 2),
-        timer: Seconds(bytes::number2(bytes::from(e, 3)) as u16),
+        timer: Seconds(bytes::number2(bytes::from(e, 3)) as u32),
     }
 }
 

@@ -135,7 +135,7 @@ fn view_at(s: &[u8], l: usize) -> ProfileView
     let forwarding = criterion_at(s, list_end(s, v));
     ProfileView {
         handling,
-        timer: Seconds(bytes::at(s, 4) as u16),
+        timer: Seconds(bytes::at(s, 4) as u32),
         sense,
         lengths: l,
         services: v,

@@ -6,7 +6,7 @@ ghost use Rattle.forms.specs.Units.{isPeriod, periodOf, timerOf, tenthsO
 pub struct Tenths(pub u64);
 
 // No-answer timers.
-pub struct Seconds(pub u16);
+pub struct Seconds(pub u32);
 
 pub enum Period {
     Of(Tenths),
@@ -25,7 +25,7 @@ impl Tenths {
     pub const CLOCK_END: Tenths = Tenths(281474976710656);
 
     pub fn is_period(self) -> bool
-        ensures { λ r. ⌜ r ≡ isPeriod (self .0) ⌝ }
+        ensures { λ r. ⌜ r ≡ isPeriod self ⌝ }
     {
         (1 <= self.0) & (self.0 <= Self::LONGEST_PERIOD.0)
     }
@@ -47,7 +47,7 @@ impl Seconds {
     pub const LONGEST_TIMER: Seconds = Seconds(2047);
 
     // A timer of n seconds, or refusal 11.
-    pub fn timer(n: u16) -> Timer
+    pub fn timer(n: u32) -> Timer
         ensures { λ r. ⌜ r ≡ timerOf n ⌝ }
     {
         if n <= Self::LONGEST_TIMER.0 {

@@ -4,8 +4,8 @@ ghost use mathlib.Core.List.{_++_};
 ghost use Prim.Native.Nat.{_+_, _≤_};
 ghost use lib.ListN.{length};
 ghost use lib.Seq.{sets};
-ghost use Rattle.forms.specs.Item.{itemBytes, formOf, headOf, fixedOf};
-ghost use Rattle.forms.specs.Write.{itemLength, written, after};
+ghost use Rattle.forms.specs.Item.{formOf, itemBytes, restAt, headOf, fixedOf};
+ghost use Rattle.forms.specs.Write.{written, after};
 use crate::bytes;
 use crate::item;
 use crate::item::Item;
@@ -49,7 +49,7 @@ fn put_parts(d: &mut [u8], a: &[u8], b: &[u8], t: &[u8])
 
 // Stores the item's n bytes at the start of `d`; f is the item's row of the table of kinds.
 fn put_item(d: &mut [u8], item: Item, f: item::Fixed, n: usize, t: &[u8])
-    requires { ⌜ ((f ≡ fixedOf (formOf (item .body))) × (n ≡ itemLength item (now t))) × (n ≤ length (now d)) ⌝ }
+    requires { ⌜ ((f ≡ fixedOf (formOf (item .body))) × (n ≡ restAt (item .body) + length (now t))) × (n ≤ length (now d)) ⌝ }
     ensures { λ _. ⌜ now (d .exit) ≡ sets (now (d .entry)) 0 (itemBytes item (now (t .entry))) ⌝ }
 {
     let time = item.time.0;

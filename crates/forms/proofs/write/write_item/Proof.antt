@@ -3,7 +3,7 @@ use borrow.Author.Needs.{needs}
 use mathlib.Core.Path.{sym, _∙_}
 use denote.Ref.{now}
 use Rattle.forms.proofs.ItemLaws.{rest-at, item-in-range}
-use Rattle.forms.proofs.WriteLaws.{yes, no-room, no}
+use Rattle.forms.proofs.WriteLaws.{with-room, no-room, out-of-range}
 use Rattle.forms.proofs.write.write_item.Statement.{statement}
 use Rattle.forms.proofs.write.write_item.Tie as tie
 
@@ -20,7 +20,7 @@ returns c =
     let a = r .before .before .before .before .before .args in
     let f = r .before .before .fixed-of .ensures in
     let n = sym (r .before .rest-at .ensures .0) in
-    let y = yes (a .item) (now (a .t)) (now (a .d)) (item-in-range (a .item) _ f _ ∙ sym (r .item-in-range .ensures) ∙ c .before .before .before .before .before .if1 .taken) (rw (rest-at (a .item) _ f, n) (c .before .before .before .before .if2 .taken)) in
+    let y = with-room (a .item) (now (a .t)) (now (a .d)) (item-in-range (a .item) _ f _ ∙ sym (r .item-in-range .ensures) ∙ c .before .before .before .before .before .if1 .taken) (rw (rest-at (a .item) _ f, n) (c .before .before .before .before .if2 .taken)) in
     (rw (rest-at (a .item) _ f, n) at (y .0), rw (c .before .before .put-item .ensures) (y .1))
 
 returns-2 : tie.Need-returns-2
@@ -34,7 +34,7 @@ returns-3 : tie.Need-returns-3
 returns-3 c =
     let r = c .before in
     let a = r .before .before .before .before .before .args in
-    no (a .item) (now (a .t)) (now (a .d)) (item-in-range (a .item) _ (r .before .before .fixed-of .ensures) _ ∙ sym (r .item-in-range .ensures) ∙ c .if1 .left)
+    out-of-range (a .item) (now (a .t)) (now (a .d)) (item-in-range (a .item) _ (r .before .before .fixed-of .ensures) _ ∙ sym (r .item-in-range .ensures) ∙ c .if1 .left)
 
 pub write-item-spec : {M : Type 1} → statement M
 write-item-spec =
