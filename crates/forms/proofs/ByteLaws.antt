@@ -12,7 +12,7 @@ use lib.Dec.{eqb, ltb}
 use lib.Seq.{drop-cons, getD-at, sets}
 use borrow.Author.Tests.{eq-eqb, ne-eqb, eqb-true, ltb-true, ltb-false}
 use Rattle.forms.specs.Bytes.{toBytes, fromBytes, all, contains, leads, same}
-use Rattle.forms.specs.Fields.{framed}
+use Rattle.forms.specs.Fields.{frame, framed}
 
 -- ---- tests
 
@@ -104,6 +104,10 @@ leads-both [] b s = refl
 leads-both (x ∷ a) b [] = refl
 leads-both (x ∷ a) b (y ∷ s) = rw (leads-both a b s, and-assoc)
 
+pub leads-next : (x : ℕ) (a s : List ℕ) (q : ℕ) → q < length s → leads (x ∷ a) (drop q s) ≡ (eqb x (getD s q 0) && leads a (drop (q + 1) s))
+unfolding leads
+leads-next x a s q h = rw (drop-cons s q 0 h, add-one)
+
 pub same-self : (a : List ℕ) → same a a ≡ true
 unfolding same
 same-self [] = refl
@@ -124,14 +128,14 @@ same-rest (x ∷ a) [] = refl
 same-rest (x ∷ a) (y ∷ s) = rw (same-rest a s)
 
 -- bytes are a frame and a body where they begin with their own length and version 1, and the body is the same
-pub framed-same : (b s : List ℕ) → same (framed b) s ≡ (leads (toBytes 2 (length s) ++ (1 ∷ [])) s && same b (drop 3 s))
+pub framed-same : (b s : List ℕ) → same (framed b) s ≡ (leads (frame (length s)) s && same b (drop 3 s))
 unfolding same leads
 framed-same b [] = refl
-framed-same b (x ∷ []) = rw (and-false, and-false)
+framed-same b (x ∷ []) = simp and-false
 framed-same b (x ∷ y ∷ []) = simp and-false
 framed-same b (x ∷ y ∷ z ∷ s) = go (same b s) refl
   where
-    go : (f : Bool) → same b s ≡ f → same (framed b) (x ∷ y ∷ z ∷ s) ≡ (leads (toBytes 2 (length (x ∷ y ∷ z ∷ s)) ++ (1 ∷ [])) (x ∷ y ∷ z ∷ s) && same b s)
+    go : (f : Bool) → same b s ≡ f → same (framed b) (x ∷ y ∷ z ∷ s) ≡ (leads (frame (length (x ∷ y ∷ z ∷ s))) (x ∷ y ∷ z ∷ s) && same b s)
     go true e =
         let n : 3 + length s ≡ length (x ∷ y ∷ z ∷ s) = omega arith in
         rw (e, same-true b s e, n) (simp and-true)

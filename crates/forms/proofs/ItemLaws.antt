@@ -10,7 +10,7 @@ use lib.Dec.{leb, ltb, eqb, lit≤}
 use borrow.Author.Tests.{leb-true, eqb-true}
 use Rattle.forms.specs.Bytes.{toBytes, fromBytes, within, leads, same}
 use Rattle.forms.specs.Units.{clockEnd}
-use Rattle.forms.specs.Fields.{allInRange, framed}
+use Rattle.forms.specs.Fields.{allInRange, frame, framed}
 use Rattle.forms.specs.Item.{formOf, fieldBytes, restInRange, itemBytes, itemInRange, restAt, restOf, itemOf, isItem, readItem, headOf, pad, fixedOf}
 use Rattle.forms.specs.declared.item.Body.{Body}
 use Rattle.forms.specs.declared.item.Body.the-variants as B
@@ -19,7 +19,7 @@ use Rattle.forms.specs.declared.item.Rest.the-variants.{Nothing, Digits,
 use Rattle.forms.specs.declared.item.Fixed.{Fixed}
 use Rattle.forms.specs.declared.item.Item.{Item}
 use Rattle.forms.specs.declared.item.ReadItem.the-variants as R
-use Rattle.forms.proofs.ByteLaws.{and-left, and-right, leads-both, same-rest, same-true, framed-same, own-bytes}
+use Rattle.forms.proofs.ByteLaws.{and-left, and-right, leads-both, leads-next, same-rest, same-true, framed-same, own-bytes}
 
 -- how many bytes follow the fields
 abbrev pub followed : Rest → ℕ
@@ -95,7 +95,7 @@ module _ (k c t : ℕ) (f : List ℕ) where
   form-same s =
       let n : 14 + length f ≡ 3 + length (inner ++ f) = omega arith in
       let e : drop (14 + length f) s ≡ drop (length (inner ++ f)) (drop 3 s) = rw (drop-drop, n) in
-      rw (framed-same (inner ++ (f ++ drop (14 + length f) s)) s, e, same-rest (inner ++ f) (drop 3 s), leads-both inner f (drop 3 s), drop-drop 11 3 s, leads-both (toBytes 2 (length s) ++ (1 ∷ [])) inner s, and-assoc)
+      rw (framed-same (inner ++ (f ++ drop (14 + length f) s)) s, e, same-rest (inner ++ f) (drop 3 s), leads-both inner f (drop 3 s), drop-drop 11 3 s, leads-both (frame (length s)) inner s, and-assoc)
 
 -- of an item and its row f: where its digits or entries begin, and that what the code tests is what makes the bytes an item
 module _ (i : Item) (f : Fixed) (e : f ≡ fixedOf (formOf (i .body))) where
@@ -112,17 +112,17 @@ module _ (i : Item) (f : Fixed) (e : f ≡ fixedOf (formOf (i .body))) where
     own : (a : ℕ) (k : ℕ) → getD (drop a s) k 0 < 256
     own a k = rw (getD-drop a s k 0) (bytes (a + k))
 
-    head-same : leads (headOf (length s) (f .kind) (i .call) (i .time .0)) s ≡ leads (toBytes 2 (length s) ++ (1 ∷ f .kind ∷ [])) s
+    head-same : leads (headOf (length s) (f .kind) (i .call) (i .time .0)) s ≡ (leads (frame (length s)) s && eqb (f .kind) (getD s 3 0))
     unfolding itemOf
     head-same =
         let c = fromBytes 4 (drop 4 s) in
         let t = fromBytes 6 (drop 8 s) in
         let c₁ = own-bytes (drop 4 s) (own 4) 4 (rw length-drop (omega arith)) in
         let t₁ = own-bytes (drop 8 s) (own 8) 6 (rw length-drop (omega arith)) in
-        rw (q, leads-both (toBytes 2 (length s) ++ (1 ∷ f .kind ∷ [])) (toBytes 4 c ++ toBytes 6 t) s, leads-both (toBytes 4 c) (toBytes 6 t) (drop 4 s), drop-drop 4 4 s, c₁, t₁, and-true)
+        rw (q, leads-both (frame (length s)) (f .kind ∷ (toBytes 4 c ++ toBytes 6 t)) s, leads-next (f .kind) (toBytes 4 c ++ toBytes 6 t) s 3 (omega arith), leads-both (toBytes 4 c) (toBytes 6 t) (drop 4 s), drop-drop 4 4 s, c₁, t₁, and-true)
 
     pub is-item : isItem i s
-        ≡ ((leads (toBytes 2 (length s) ++ (1 ∷ f .kind ∷ [])) s && leads (take (f .len) (f .bytes)) (drop 14 s))
+        ≡ (((leads (frame (length s)) s && eqb (f .kind) (getD s 3 0)) && leads (take (f .len) (f .bytes)) (drop 14 s))
         && ((f .in_range && restInRange (f .rest) (drop (14 + f .len) s)) && ltb (i .time .0) clockEnd))
     unfolding isItem itemBytes itemInRange restAt
     is-item = rw (← head-same, e, fields-back (i .body), form-same (formOf (i .body) .kind) (i .call) (i .time .0) (fieldBytes (i .body)) s)

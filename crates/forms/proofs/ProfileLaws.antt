@@ -11,8 +11,8 @@ use borrow.Author.Tests.{eq-eqb, ne-eqb, lt-leb}
 use lib.ListN.{length, getD, take, drop, drop-of-length-le}
 use lib.Seq.{drop-cons, drop-drop, getD-drop, length-take-le, take-all}
 use lib.Dec.{leb, eqb, leb·zero}
-use Rattle.forms.specs.Bytes.{toBytes, within, part, all, leads, same}
-use Rattle.forms.specs.Fields.{Field, bytesIn, allInRange}
+use Rattle.forms.specs.Bytes.{within, part, all, leads, same}
+use Rattle.forms.specs.Fields.{Field, bytesIn, allInRange, frame}
 use Rattle.forms.specs.Profile.{handlingNumber, criterionNumber, numberFields, listFields, fieldsOf, profileBytes, senseInRange, profileInRange, handlingOf, criterionOf, listAt, listEnd, numberAt, numbersAt, numbersEnd, viewAt, viewOf, profileOf}
 use Rattle.forms.specs.declared.profile.ProfileView.{ProfileView}
 use Rattle.forms.proofs.ByteLaws.{below-or-past, framed-same}
@@ -120,7 +120,7 @@ module _ (s : List ℕ) (p : ProfileView) (e : p ≡ viewOf s) where
   n = getD s 6 0
 
   pub profile-same : same (profileBytes (profileOf s)) s
-      ≡ (leads (toBytes 2 (length s) ++ (1 ∷ [])) s && leb (getD s 3 0) 1 && leb (getD s 5 0) 2 && leb (getD s (listEnd s (p .services)) 0) 2 && eqb (length (drop (listEnd s (p .services)) s)) 1)
+      ≡ (leads (frame (length s)) s && leb (getD s 3 0) 1 && leb (getD s 5 0) 2 && leb (getD s (listEnd s (p .services)) 0) 2 && eqb (length (drop (listEnd s (p .services)) s)) 1)
   unfolding profileBytes fieldsOf profileOf viewAt same
   profile-same =
       let l = numbersEnd n s 7 in

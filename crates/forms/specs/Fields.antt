@@ -79,5 +79,8 @@ allInRange [] = true
 allInRange (f ∷ fs) = f .inRange && allInRange fs
 
 -- "Two bytes total length, equal to the bytes handed over, and one version byte 1"
+abbrev pub frame : ℕ → List ℕ
+frame n = toBytes 2 n ++ (1 ∷ [])
+
 abbrev pub framed : List ℕ → List ℕ
-framed b = toBytes 2 (3 + length b) ++ (1 ∷ b)
+framed b = frame (3 + length b) ++ b

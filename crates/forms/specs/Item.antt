@@ -4,9 +4,9 @@ use mathlib.Core.List.{List, [], _∷_, _++_}
 use mathlib.Core.Bool.{Bool, _&&_, cond}
 use lib.ListN.{length, getD, drop}
 use lib.Dec.{ltb, leb, eqb}
-use Rattle.forms.specs.Bytes.{toBytes, fromBytes, all, same}
+use Rattle.forms.specs.Bytes.{toBytes, fromBytes, same}
 use Rattle.forms.specs.Units.{clockEnd}
-use Rattle.forms.specs.Fields.{Field, nature, service, forwarded, digitCount, isDigit, digit, cause, leg, entryCount, period, bytesIn, allInRange, framed}
+use Rattle.forms.specs.Fields.{Field, nature, service, forwarded, digitCount, digits, digit, cause, leg, entryCount, period, bytesIn, allInRange, frame, framed}
 use Rattle.forms.specs.declared.item.Leg.{Leg}
 use Rattle.forms.specs.declared.item.Leg.the-variants.{One, Two}
 use Rattle.forms.specs.declared.item.Body.{Body}
@@ -54,7 +54,7 @@ formOf B.Abort = form 26 [] Nothing
 -- what follows: nothing; "one byte per digit 0..14"; or, "each: point, leg, mode, timer (2 bytes), of any value", five bytes an entry
 abbrev pub restInRange : Rest → List ℕ → Bool
 restInRange Nothing t = eqb (length t) 0
-restInRange (Digits count) t = eqb (length t) count && all isDigit t
+restInRange (Digits count) t = eqb (length t) count && digits t .inRange
 restInRange (Entries count) t = eqb (length t) (count * 5)
 
 -- ---- an item, t its digits or entries, as bytes: "length, version, kind (1 byte), call (4), time (6), body"
@@ -78,7 +78,7 @@ restAt b = 14 + length (fieldBytes b)
 abbrev pub legOf : Bool → Leg
 legOf two = cond two Two One
 
--- the first body of the list that is of the kind n, an Abort where none is: its own kind, 26, then tells them apart
+-- the first body of the list that is of the kind n. Where none is, an Abort: its form has the kind 26, so the bytes are not it
 abbrev pub choose : ℕ → List Body → Body
 choose n [] = B.Abort
 choose n (b ∷ bs) = cond (eqb n (formOf b .kind)) b (choose n bs)
@@ -119,7 +119,10 @@ placed a (R.Refused n) = R.Refused n
 unfoldable pub readItemAt : List ℕ → ℕ → ReadItem
 readItemAt s a = placed a (readItem (drop a s))
 
--- ---- the entries of a Request report: "point, leg, mode, timer (2 bytes)"
+-- ---- the entries of a Request report: "point, leg, mode, timer (2 bytes)", written and read
+
+abbrev pub entryBytes : Entry → List ℕ
+entryBytes e = e .point ∷ e .leg ∷ e .mode ∷ toBytes 2 (e .timer .0)
 
 unfoldable pub entryOf : List ℕ → Entry
 entryOf e = record { point = getD e 0 0; leg = getD e 1 0; mode = getD e 2 0; timer = record { 0 = fromBytes 2 (drop 3 e) } }
@@ -131,7 +134,7 @@ readEntry s a = cond (leb 5 (length (drop a s))) (E.Entry (entryOf (drop a s)) (
 -- ---- what the code keeps of a row: the fields' bytes in five places; and the 14 bytes before them in a form of n bytes
 
 abbrev pub headOf : ℕ → ℕ → ℕ → ℕ → List ℕ
-headOf n kind call time = toBytes 2 n ++ (1 ∷ kind ∷ (toBytes 4 call ++ toBytes 6 time))
+headOf n kind call time = frame n ++ (kind ∷ (toBytes 4 call ++ toBytes 6 time))
 
 abbrev pub pad : ℕ → List ℕ → List ℕ
 pad zero l = []

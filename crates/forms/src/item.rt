@@ -1,15 +1,16 @@
 // Items: the table of kinds, and reading (document 01, Forms). Bytes read as the item whose written form they are.
 ghost use mathlib.Core.Path.{_≡_};
-ghost use mathlib.Core.List.{[], _∷_, _++_};
+ghost use mathlib.Core.List.{[], _∷_};
 ghost use mathlib.Core.Bool.{true, _&&_};
 ghost use Prim.Native.Nat.{_+_, _*_, _≤_};
-ghost use lib.ListN.{length, take, drop};
-ghost use lib.Dec.{ltb};
+ghost use lib.ListN.{length, getD, take, drop};
+ghost use lib.Dec.{eqb, ltb};
 ghost use Rattle.forms.specs.Bytes.{toBytes, leads};
 ghost use Rattle.forms.specs.Units.{clockEnd};
-ghost use Rattle.forms.specs.Fields.{legNumber};
+ghost use Rattle.forms.specs.Fields.{legNumber, frame};
 ghost use Rattle.forms.specs.Item.{formOf, restInRange, legOf, bodyFrom, itemOf, readItem, readItemAt, entryOf, readEntry, fixed, fixedOf};
 use crate::bytes;
+use crate::fields;
 use crate::units::Seconds;
 use crate::units::Tenths;
 
@@ -89,7 +90,7 @@ pub(crate) struct Fixed {
     pub rest: Rest,
 }
 
-// The rows: any; without a field; with one and nothing after it.
+// A row of any kind. Then: one without fields; one with a single field of a byte; one with a byte and a field of four. Nothing follows these.
 fn row(kind: u8, len: u8, bytes: [u8; 5], in_range: bool, rest: Rest) -> Fixed
     ensures { λ r. ⌜ r ≡ record { kind = kind; len = len; bytes = bytes; in_range = in_range; rest = rest } ⌝ }
 {
@@ -114,7 +115,6 @@ fn one_field(kind: u8, a: u8, in_range: bool) -> Fixed
     row(kind, 1, [a, 0, 0, 0, 0], in_range, Rest::Nothing)
 }
 
-// A byte, a field of four bytes, and nothing after them.
 fn long_field(kind: u8, a: u8, n: u64, in_range: bool) -> Fixed
     ensures { λ r. ⌜ r ≡ fixed kind (a ∷ toBytes 4 n) in_range Rest.Nothing ⌝ }
 {
@@ -159,21 +159,22 @@ pub(crate) fn fixed_of(body: Body) -> Fixed
             1,
             4,
             [nature, service, forwarded as u8, count, 0],
-            bytes::is_within(nature, 0, 127) & bytes::is_within(count, 1, 15),
+            bytes::is_within(nature, 0, fields::NATURE)
+                & bytes::is_within(count, 1, fields::DIGITS),
             Rest::Digits(count),
         ),
-        Body::RouteFailure(cause) => one_field(2, cause, bytes::is_within(cause, 0, 127)),
-        Body::Busy(cause) => one_field(3, cause, bytes::is_within(cause, 0, 127)),
+        Body::RouteFailure(cause) => one_field(2, cause, bytes::is_within(cause, 0, fields::CAUSE)),
+        Body::Busy(cause) => one_field(3, cause, bytes::is_within(cause, 0, fields::CAUSE)),
         Body::NoAnswer => no_field(4),
         Body::Seized => no_field(5),
         Body::Answer => no_field(6),
-        Body::MidCall(digit) => one_field(7, digit, bytes::is_within(digit, 0, 14)),
+        Body::MidCall(digit) => one_field(7, digit, bytes::is_within(digit, 0, fields::DIGIT)),
         Body::Moved => no_field(8),
         Body::Clear(leg, cause) => row(
             9,
             2,
             [leg_number(leg), cause, 0, 0, 0],
-            bytes::is_within(cause, 0, 127),
+            bytes::is_within(cause, 0, fields::CAUSE),
             Rest::Nothing,
         ),
         Body::PeriodOver(leg) => one_field(10, leg_number(leg), true),
@@ -181,7 +182,7 @@ pub(crate) fn fixed_of(body: Body) -> Fixed
             20,
             1,
             [count, 0, 0, 0, 0],
-            bytes::is_within(count, 1, 10),
+            bytes::is_within(count, 1, fields::ENTRIES),
             Rest::Entries(count),
         ),
         Body::Continue => no_field(21),
@@ -189,7 +190,8 @@ pub(crate) fn fixed_of(body: Body) -> Fixed
             22,
             2,
             [nature, count, 0, 0, 0],
-            bytes::is_within(nature, 0, 127) & bytes::is_within(count, 1, 15),
+            bytes::is_within(nature, 0, fields::NATURE)
+                & bytes::is_within(count, 1, fields::DIGITS),
             Rest::Digits(count),
         ),
         Body::Release => no_field(23),
@@ -262,15 +264,17 @@ pub(crate) fn rest_at(f: Fixed) -> usize
     14 + bytes::size(f.len)
 }
 
-// The bytes begin as an item of the row f, and the fields are written as f says.
+// The bytes are framed, of the kind of the row f, and its fields are written there.
 fn starts(f: Fixed, s: &[u8]) -> bool
-    ensures { λ r. ⌜ r ≡ (leads (toBytes 2 (length (now (s .entry))) ++ (1 ∷ f .kind ∷ [])) (now (s .entry)) && leads (take (f .len) (f .bytes)) (drop 14 (now (s .entry)))) ⌝ }
+    ensures { λ r. ⌜ r ≡ ((leads (frame (length (now (s .entry)))) (now (s .entry)) && eqb (f .kind) (getD (now (s .entry)) 3 0)) && leads (take (f .len) (f .bytes)) (drop 14 (now (s .entry)))) ⌝ }
 {
-    let n = s.len();
-    let bytes = f.bytes;
-    let start = [(n / 256 % 256) as u8, (n % 256) as u8, 1, f.kind];
-    let fields = bytes::part_of(&bytes, 0, bytes::size(f.len));
-    bytes::leads(&start, s) & bytes::leads(fields, bytes::from(s, 14))
+    let row = f.bytes;
+    fields::is_framed(s)
+        & (f.kind == bytes::at(s, 3))
+        & bytes::leads(
+            bytes::part_of(&row, 0, bytes::size(f.len)),
+            bytes::from(s, 14),
+        )
 }
 
 fn rest_in_range(rest: Rest, t: &[u8]) -> bool
@@ -279,7 +283,7 @@ fn rest_in_range(rest: Rest, t: &[u8]) -> bool
     let n = t.len();
     match rest {
         Rest::Nothing => n == 0,
-        Rest::Digits(count) => (n == count as usize) & bytes::all_within(t, 0, 14),
+        Rest::Digits(count) => (n == count as usize) & bytes::all_within(t, 0, fields::DIGIT),
         Rest::Entries(count) => n == count as usize * 5,
     }
 }
@@ -336,7 +340,7 @@ fn entry_of(e: &[u8]) -> Entry
     }
 }
 
-// The entry i of a Request report, whose entries are `t`.
+// The entry i of a Request report, whose entries are `t`; zeros past the end.
 pub fn nth_entry(t: &[u8], i: u8) -> Entry
     ensures { λ r. ⌜ r ≡ entryOf (drop (i * 5) (now (t .entry))) ⌝ }
 {

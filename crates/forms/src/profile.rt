@@ -1,14 +1,15 @@
 // Profiles: reading, and what triggering asks of one (document 01, Forms and Triggering). The lists stay in the lent bytes.
 ghost use mathlib.Core.Path.{_≡_};
-ghost use mathlib.Core.List.{[], _∷_, _++_};
+ghost use mathlib.Core.List.{[], _∷_};
 ghost use mathlib.Core.Bool.{_&&_};
 ghost use Prim.Native.Nat.{_+_, _≤_};
 ghost use lib.ListN.{length, getD, drop};
 ghost use lib.Dec.{leb, eqb};
-ghost use Rattle.forms.specs.Bytes.{toBytes, within, all, leads};
-ghost use Rattle.forms.specs.Fields.{allInRange};
+ghost use Rattle.forms.specs.Bytes.{within, all, leads};
+ghost use Rattle.forms.specs.Fields.{allInRange, frame};
 ghost use Rattle.forms.specs.Profile.{handlingOf, criterionOf, criterionAt, numberFields, senseInRange, listAt, listEnd, numberAt, numbersAt, numbersEnd, viewAt, profileOf, readProfile, matches, someMatches};
 use crate::bytes;
+use crate::fields;
 use crate::units::Seconds;
 
 pub enum Handling {
@@ -104,9 +105,9 @@ fn number_in_range(s: &[u8], q: usize) -> bool
 {
     let digits = list_at(s, q + 1);
     let n = digits.len();
-    bytes::is_within(bytes::at(s, q), 0, 127)
-        & ((1 <= n) & (n <= 15))
-        & bytes::all_within(digits, 0, 14)
+    bytes::is_within(bytes::at(s, q), 0, fields::NATURE)
+        & ((1 <= n) & (n <= fields::DIGITS as usize))
+        & bytes::all_within(digits, 0, fields::DIGIT)
 }
 
 // The n stored numbers.
@@ -146,12 +147,10 @@ fn view_at(s: &[u8], l: usize) -> ProfileView
 // The bytes are written as a profile is, whose list of services stands at v: length, version, the three choices, and nothing after the last.
 fn is_written(s: &[u8], v: usize) -> bool
     requires { ⌜ v ≤ 66000 ⌝ }
-    ensures { λ r. ⌜ r ≡ (leads (toBytes 2 (length (now (s .entry))) ++ (1 ∷ [])) (now (s .entry)) && leb (getD (now (s .entry)) 3 0) 1 && leb (getD (now (s .entry)) 5 0) 2 && leb (getD (now (s .entry)) (listEnd (now (s .entry)) v) 0) 2 && eqb (length (drop (listEnd (now (s .entry)) v) (now (s .entry)))) 1) ⌝ }
+    ensures { λ r. ⌜ r ≡ (leads (frame (length (now (s .entry)))) (now (s .entry)) && leb (getD (now (s .entry)) 3 0) 1 && leb (getD (now (s .entry)) 5 0) 2 && leb (getD (now (s .entry)) (listEnd (now (s .entry)) v) 0) 2 && eqb (length (drop (listEnd (now (s .entry)) v) (now (s .entry)))) 1) ⌝ }
 {
     let f = list_end(s, v);
-    let n = s.len();
-    let start = [(n / 256 % 256) as u8, (n % 256) as u8, 1];
-    bytes::leads(&start, s)
+    fields::is_framed(s)
         & (bytes::at(s, 3) <= 1)
         & (bytes::at(s, 5) <= 2)
         & (bytes::at(s, f) <= 2)
@@ -171,7 +170,7 @@ fn is_in_range(s: &[u8], p: ProfileView, numbers: bool) -> bool
         & (n <= 10)
         & numbers
         & (lengths.len() <= 3)
-        & bytes::all_within(lengths, 1, 15)
+        & bytes::all_within(lengths, 1, fields::DIGITS)
         & (services.len() <= 5)
         & sense_in_range(sense, bytes::size(n) + lengths.len())
 }

@@ -7,5 +7,5 @@ pub number-in-range-spec : {M : Type 1} → statement M
 number-in-range-spec =
     tie.close
     (tie.spec
-    (λ c. search needs) (λ c κs. search needs) (λ c κs. search needs) (λ c κs. search needs) (λ c κs. search needs)
+    (λ c. search needs) (λ c κs. search needs) (λ c κs. search needs) (λ c κs. search needs) (λ c. search needs) (λ c κs. search needs)
     (λ c. simp (c .all-within .ensures, c .before .is-within .ensures, c .before .before .at .ensures, c .before .before .before .list-at .ensures, and-true, and-assoc)))
