@@ -19,7 +19,7 @@ use Rattle.forms.specs.declared.item.Rest.the-variants.{Nothing, Digits,
 use Rattle.forms.specs.declared.item.Fixed.{Fixed}
 use Rattle.forms.specs.declared.item.Item.{Item}
 use Rattle.forms.specs.declared.item.ReadItem.the-variants as R
-use Rattle.forms.proofs.ByteLaws.{and-left, and-right, leads-both, leads-next, same-rest, same-true, framed-same, own-bytes}
+use Rattle.forms.proofs.ByteLaws.{picked, and-left, and-right, leads-both, leads-next, same-rest, same-true, framed-same, own-bytes}
 
 -- how many bytes follow the fields
 abbrev pub followed : Rest → ℕ
@@ -139,11 +139,25 @@ read-short s h =
     go true h = absurd (h refl)
     go false h = refl
 
--- the digits or entries of an item begin within its first 19 bytes
+-- what reading an item says: the bytes are its written form, it is in range, and its digits or entries begin at this place
+pub record Reads (s : List ℕ) (i : Item) (n : ℕ) : Type 0 where
+  pub written : itemBytes i (drop n s) ≡ s
+  pub inRange : itemInRange i (drop n s) ≡ true
+  pub place : restAt (i .body) ≡ n
+
+pub reads : (s : List ℕ) (i : Item) (n : ℕ) → readItem s ≡ R.Item i n → Reads s i n
+unfolding readItem isItem
+reads s i n h =
+    let j = itemOf s in
+    let t = restOf (j .body) s in
+    let p = picked (isItem j s) (R.Item j (restAt (j .body))) (R.Refused 1) (R.Item i n) h (λ (e : R.Refused 1 ≡ R.Item i n). let z : _≡_ {A = ℕ} 0 1 = cc in omega arith) in
+    let q : j ≡ i = cc in
+    let m : restAt (j .body) ≡ n = cc in
+    let w : itemBytes j t ≡ s = same-true (itemBytes j t) s (and-left (same (itemBytes j t) s) (itemInRange j t) (p .0)) in
+    let r : itemInRange j t ≡ true = and-right (same (itemBytes j t) s) (itemInRange j t) (p .0) in
+    record { written = rw (m, q) at w; inRange = rw (m, q) at r; place = rw q at m }
+
+-- they begin within its first 19 bytes
 pub place-small : (s : List ℕ) (i : Item) (n : ℕ) → readItem s ≡ R.Item i n → n ≤ 19
-unfolding readItem restAt
-place-small s i n h = go (isItem (itemOf s) s) h
-  where
-    go : (b : Bool) → cond b (R.Item (itemOf s) (14 + length (fieldBytes (itemOf s .body)))) (R.Refused 1) ≡ R.Item i n → n ≤ 19
-    go true h = let q : 14 + length (fieldBytes (itemOf s .body)) ≡ n = cc in omega (arith, small (itemOf s .body) .0)
-    go false h = let z : _≡_ {A = ℕ} 0 1 = cc in absurd (omega arith)
+unfolding restAt
+place-small s i n h = let p : 14 + length (fieldBytes (i .body)) ≡ n = reads s i n h .place in omega (arith, small (i .body) .0)

@@ -1,26 +1,28 @@
--- The theorems of the item form: what is written reads back the same; each item has one written form; an item is 14 to 65 bytes long.
-use Prim.Native.Nat.{ℕ, zero, suc, _+_, _*_, _/_, _%_, _^_, _≤_, _<_}
+-- The theorems of the item form: what is written reads back the same; each item has one written form; an item is 14 to 65 bytes long; entries likewise.
+use Prim.Native.Nat.{ℕ, _+_, _/_, _%_, _^_, _≤_, _<_}
 use mathlib.Core.Path.{_≡_, refl, sym, ap, _∙_}
-use mathlib.Core.List.{List, [], _∷_, _++_, append-assoc}
-use mathlib.Core.Bool.{Bool, true, false, _&&_, cond}
-use native.Mathlib.Nat.{pow-suc}
+use mathlib.Core.List.{List, [], _∷_, _++_}
+use mathlib.Core.Bool.{true, false, _&&_}
 use native.Mathlib.Omega.{arith}
-use borrow.Author.Tests.{leb-true, ltb-true}
-use lib.ListN.{length, drop, length-append}
-use lib.Seq.{drop-at, getD-at}
+use borrow.Author.Tests.{leb-true, ltb-true, le-leb}
+use lib.ListN.{length, take, drop}
+use lib.Seq.{drop-at, take-append-seam}
 use lib.Dec.{leb, ltb}
-use Rattle.forms.specs.Bytes.{toBytes, fromBytes, same}
+use Rattle.forms.specs.Bytes.{toBytes, fromBytes}
 use Rattle.forms.specs.Units.{clockEnd, isPeriod}
 use Rattle.forms.specs.Fields.{allInRange}
-use Rattle.forms.specs.Item.{formOf, fieldBytes, restInRange, itemBytes, itemInRange, restAt, restOf, bodyFrom, bodyOf, itemOf, isItem, readItem, headOf}
+use Rattle.forms.specs.Item.{formOf, fieldBytes, restInRange, itemBytes, itemInRange, restAt, restOf, bodyFrom, bodyOf, itemOf, isItem, readItem, entryBytes, entryOf, headOf}
+use Rattle.forms.specs.Write.{writable, written, after}
 use Rattle.forms.specs.declared.units.Tenths.{Tenths}
 use Rattle.forms.specs.declared.item.Leg.the-variants.{One, Two}
 use Rattle.forms.specs.declared.item.Body.{Body}
 use Rattle.forms.specs.declared.item.Body.the-variants as B
 use Rattle.forms.specs.declared.item.Item.{Item}
+use Rattle.forms.specs.declared.item.Entry.{Entry}
 use Rattle.forms.specs.declared.item.ReadItem.the-variants as R
-use Rattle.forms.proofs.ByteLaws.{and-left, and-right, number-back, same-self, same-true}
-use Rattle.forms.proofs.ItemLaws.{item-size, item-parts, item-length}
+use Rattle.forms.specs.declared.write.Written.the-variants as W
+use Rattle.forms.proofs.ByteLaws.{picked, and-left, and-right, number-back, same-self}
+use Rattle.forms.proofs.ItemLaws.{item-size, item-parts, item-length, reads}
 
 -- ---- what is written reads back the same
 
@@ -70,44 +72,57 @@ module _ (i : Item) (t : List ℕ) (right : itemInRange i t ≡ true) (call : i 
   unfolding restAt
   rest-back = rw (item-parts i t) (drop-at (headOf _ _ _ _ ++ fieldBytes (i .body)) t (14 + length (fieldBytes (i .body))) (omega arith))
 
-  -- reading what was written gives the item, and what follows it
+  -- reading an item's bytes gives the item and what follows it
   pub read-back : (readItem (itemBytes i t) ≡ R.Item i (restAt (i .body))) × (restOf (i .body) (itemBytes i t) ≡ t)
   unfolding readItem isItem
   read-back = (rw (item-back, rest-back, same-self (itemBytes i t), right), rest-back)
 
+-- what was written into a buffer reads back the same. (A call is below 256 ^ 4 in the code: it is a u32.)
+pub written-read : (i : Item) (t d : List ℕ) (n : ℕ) → i .call < 256 ^ 4 → written i t d ≡ W.Length n
+    → (readItem (take n (after i t d)) ≡ R.Item i (restAt (i .body))) × (restOf (i .body) (take n (after i t d)) ≡ t)
+unfolding written after writable
+written-read i t d n call h =
+    let b = itemBytes i t in
+    let p = picked (itemInRange i t && leb (length b) (length d)) (W.Length (length b)) (W.Refused 1) (W.Length n) h (λ (e : W.Refused 1 ≡ W.Length n). let z : _≡_ {A = ℕ} 0 1 = cc in omega arith) in
+    let l : length b ≡ n = cc in
+    rw (p .0, ← l, take-append-seam b (drop (length b) d)) (read-back i t (and-left (itemInRange i t) (leb (length b) (length d)) (p .0)) call)
+
 -- ---- one written form
 
--- what reading an item says of the bytes
-record Reads (s : List ℕ) (i : Item) (n : ℕ) : Type 0 where
-  written : itemBytes i (restOf (i .body) s) ≡ s
-  inRange : itemInRange i (restOf (i .body) s) ≡ true
-  place : n ≡ restAt (i .body)
-
-reads : (s : List ℕ) (i : Item) (n : ℕ) → readItem s ≡ R.Item i n → Reads s i n
-unfolding readItem isItem
-reads s i n h = go (itemOf s) (isItem (itemOf s) s) refl h
-  where
-    go : (j : Item) (b : Bool) → (same (itemBytes j (restOf (j .body) s)) s && itemInRange j (restOf (j .body) s)) ≡ b → cond b (R.Item j (restAt (j .body))) (R.Refused 1) ≡ R.Item i n → Reads s i n
-    go j true e h =
-        let q : j ≡ i = cc in
-        let t = restOf (j .body) s in
-        rw (← q) (record { written = same-true _ _ (and-left (same (itemBytes j t) s) (itemInRange j t) e); inRange = and-right (same (itemBytes j t) s) _ e; place = cc })
-    go j false e h = let z : _≡_ {A = ℕ} 0 1 = cc in absurd (omega arith)
-
 module _ (s : List ℕ) (i : Item) (n : ℕ) (h : readItem s ≡ R.Item i n) where
-  -- writing what was read gives the bytes back
+  -- bytes that read as an item are its written form
   pub one-form : itemBytes i (drop n s) ≡ s
-  one-form = rw (reads s i n h .place) (reads s i n h .written)
+  one-form = reads s i n h .written
+
+  -- writing what was read gives the bytes back, in any buffer with room
+  pub read-written : (d : List ℕ) → length s ≤ length d → (written i (drop n s) d ≡ W.Length (length s)) × (after i (drop n s) d ≡ s ++ drop (length s) d)
+  unfolding written after writable
+  read-written d l = (rw (reads s i n h .inRange, one-form, le-leb _ _ l), rw (reads s i n h .inRange, one-form, le-leb _ _ l))
 
   -- an item is 14 to 65 bytes long
   pub item-bounds : (14 ≤ length s) × (length s ≤ 65)
   unfolding restAt
   item-bounds =
       let r = reads s i n h in
-      let t = restOf (i .body) s in
-      let l : 14 + length (fieldBytes (i .body)) + length t ≡ length s = sym (item-length i t) ∙ ap length (r .written) in
-      (omega arith, omega (arith, item-size i t (r .inRange)))
+      let l : 14 + length (fieldBytes (i .body)) + length (drop n s) ≡ length s = sym (item-length i (drop n s)) ∙ ap length (r .written) in
+      (omega arith, omega (arith, item-size i (drop n s) (r .inRange)))
 
 -- two byte runs that read as one item, with the same digits or entries, are the same bytes
 pub one-run : (s r : List ℕ) (i : Item) (m n : ℕ) → readItem s ≡ R.Item i m → readItem r ≡ R.Item i n → drop m s ≡ drop n r → s ≡ r
 one-run s r i m n hs hr e = sym (one-form s i m hs) ∙ ap (itemBytes i) e ∙ one-form r i n hr
+
+-- ---- entries
+
+-- an entry reads back from its bytes
+pub entry-back : (e : Entry) (w : List ℕ) → e .timer .0 < 256 ^ 2 → entryOf (entryBytes e ++ w) ≡ e
+unfolding entryOf
+entry-back e w h = rw (number-back 2 (e .timer .0) w h)
+
+-- five bytes are the written form of one entry
+pub entry-form : (a b c m n : ℕ) (w : List ℕ) → m < 256 → n < 256 → entryBytes (entryOf (a ∷ b ∷ c ∷ m ∷ n ∷ w)) ≡ a ∷ b ∷ c ∷ m ∷ n ∷ []
+unfolding entryOf
+entry-form a b c m n w hm hn =
+    let t = fromBytes 2 (m ∷ n ∷ w) in
+    let p : t / 256 % 256 ≡ m = omega arith in
+    let q : t % 256 ≡ n = omega arith in
+    rw (p, q)

@@ -2,7 +2,7 @@
 use Prim.Native.Nat.{ℕ, _+_, _*_, _≤_}
 use mathlib.Core.Path.{_≡_, refl, sym, ap, _∙_}
 use mathlib.Core.List.{List, [], _∷_, _++_, append-assoc}
-use mathlib.Core.Bool.{Bool, true, false, _&&_, cond}
+use mathlib.Core.Bool.{true, _&&_}
 use native.Mathlib.Omega.{arith}
 use borrow.Author.Tests.{leb-true}
 use lib.ListN.{length, getD, drop, length-append}
@@ -17,7 +17,7 @@ use Rattle.forms.specs.declared.profile.Criterion.{Criterion}
 use Rattle.forms.specs.declared.profile.Criterion.the-variants as C
 use Rattle.forms.specs.declared.profile.ProfileView.{ProfileView}
 use Rattle.forms.specs.declared.profile.ReadProfile.the-variants as R
-use Rattle.forms.proofs.ByteLaws.{and-left, and-right, same-self, same-true}
+use Rattle.forms.proofs.ByteLaws.{picked, and-left, and-right, same-self, same-true}
 use Rattle.forms.proofs.ProfileLaws.{bytes-both, in-range-both, head-at}
 
 -- ---- what is written reads back the same
@@ -74,13 +74,13 @@ module _ (p : Profile) where
 -- ---- one written form
 
 module _ (s : List ℕ) (v : ProfileView) (h : readProfile s ≡ R.Profile v) where
-  reads : ((profileBytes (profileOf s) ≡ s) × (profileInRange (profileOf s) ≡ true)) × (v ≡ viewOf s)
+  -- the bytes are the profile's written form, it is in range, and the view is its own
+  pub reads : ((profileBytes (profileOf s) ≡ s) × (profileInRange (profileOf s) ≡ true)) × (viewOf s ≡ v)
   unfolding readProfile isProfile
-  reads = go (profileOf s) (same (profileBytes (profileOf s)) s && profileInRange (profileOf s)) refl h
-    where
-      go : (p : Profile) (b : Bool) → (same (profileBytes p) s && profileInRange p) ≡ b → cond b (R.Profile (viewOf s)) (R.Refused 2) ≡ R.Profile v → ((profileBytes p ≡ s) × (profileInRange p ≡ true)) × (v ≡ viewOf s)
-      go p true e h = ((same-true _ _ (and-left (same (profileBytes p) s) (profileInRange p) e), and-right (same (profileBytes p) s) _ e), cc)
-      go p false e h = let z : _≡_ {A = ℕ} 0 1 = cc in absurd (omega arith)
+  reads =
+      let p = profileOf s in
+      let r = picked (isProfile p s) (R.Profile (viewOf s)) (R.Refused 2) (R.Profile v) h (λ (e : R.Refused 2 ≡ R.Profile v). let z : _≡_ {A = ℕ} 0 1 = cc in omega arith) in
+      ((same-true (profileBytes p) s (and-left (same (profileBytes p) s) (profileInRange p) (r .0)), and-right (same (profileBytes p) s) (profileInRange p) (r .0)), cc)
 
   -- bytes that read as a profile are its written form
   pub one-form : profileBytes (profileOf s) ≡ s
