@@ -1,17 +1,21 @@
--- Computed cases: what document 01's P1, P2 and P7 say of bytes ('Both sides of each edge'), and bytes that are no item or no profile, each range at its first value outside.
+-- Computed cases: what document 01's P1, P2, P6 and P7 say ('Both sides of each edge'), two profiles, and bytes that are no item or no profile, each range at its first value outside.
 -- `edges` is a list of bytes and what they read as: the one statement over P1 to P10 takes it up.
 use Prim.Native.Nat.{ℕ}
 use mathlib.Core.Path.{_≡_, refl}
 use mathlib.Core.List.{List, [], _∷_, _++_, map}
+use mathlib.Core.Bool.{true, false}
 use lib.ListN.{replicate}
-use Rattle.forms.specs.Bytes.{all, same}
-use Rattle.forms.specs.Item.{itemBytes, itemInRange, restAt, bodyFrom, bodyOf, itemOf, isItem, readItem}
-use Rattle.forms.specs.Profile.{fieldsOf, profileBytes, profileInRange, numbersAt, numbersEnd, viewAt, profileOf, isProfile, readProfile}
+use Rattle.forms.specs.Bytes.{all, leads, same}
+use Rattle.forms.specs.Item.{itemBytes, itemInRange, restAt, bodyFrom, bodyOf, itemOf, isItem, readItem, entryOf, readEntry}
+use Rattle.forms.specs.Profile.{Profile, fieldsOf, profileBytes, profileInRange, numbersAt, numbersEnd, viewAt, viewOf, profileOf, isProfile, readProfile, matches}
 use Rattle.forms.specs.declared.item.Leg.the-variants.{Two}
 use Rattle.forms.specs.declared.item.Body.{Body}
 use Rattle.forms.specs.declared.item.Body.the-variants as B
 use Rattle.forms.specs.declared.item.ReadItem.{ReadItem}
 use Rattle.forms.specs.declared.item.ReadItem.the-variants as R
+use Rattle.forms.specs.declared.item.ReadEntry.the-variants as E
+use Rattle.forms.specs.declared.profile.Handling.the-variants.{Continue, Release}
+use Rattle.forms.specs.declared.profile.Criterion.the-variants.{Absent, Enabling, Inhibiting}
 use Rattle.forms.specs.declared.profile.ReadProfile.the-variants as P
 
 pub record Case : Type 0 where
@@ -29,12 +33,15 @@ malformed bytes = record { bytes = bytes; says = R.Refused 1 }
 abbrev item : ℕ → ℕ → ℕ → List ℕ → List ℕ
 item length version kind body = 0 ∷ length ∷ version ∷ kind ∷ 0 ∷ 0 ∷ 0 ∷ 7 ∷ 0 ∷ 0 ∷ 0 ∷ 0 ∷ 0x03 ∷ 0xE8 ∷ body
 
+-- P2 arm 6 leg 2 mode 0 timer 30 at 1000
+abbrev pub p2 : List ℕ
+p2 = 0x00 ∷ 0x14 ∷ 0x01 ∷ 0x14 ∷ 0x00 ∷ 0x00 ∷ 0x00 ∷ 0x07 ∷ 0x00 ∷ 0x00 ∷ 0x00 ∷ 0x00 ∷ 0x03 ∷ 0xE8 ∷ 0x01 ∷ 0x06 ∷ 0x02 ∷ 0x00 ∷ 0x00 ∷ 0x1E ∷ []
+
 abbrev pub edges : List Case
 edges =
     -- P1 Answer, call 7, 5000
     reads (0x00 ∷ 0x0E ∷ 0x01 ∷ 0x06 ∷ 0x00 ∷ 0x00 ∷ 0x00 ∷ 0x07 ∷ 0x00 ∷ 0x00 ∷ 0x00 ∷ 0x00 ∷ 0x13 ∷ 0x88 ∷ []) 5000 B.Answer 14
-    -- P2 arm 6 leg 2 mode 0 timer 30 at 1000
-    ∷ reads (0x00 ∷ 0x14 ∷ 0x01 ∷ 0x14 ∷ 0x00 ∷ 0x00 ∷ 0x00 ∷ 0x07 ∷ 0x00 ∷ 0x00 ∷ 0x00 ∷ 0x00 ∷ 0x03 ∷ 0xE8 ∷ 0x01 ∷ 0x06 ∷ 0x02 ∷ 0x00 ∷ 0x00 ∷ 0x1E ∷ []) 1000 (B.RequestReport 1) 15
+    ∷ reads p2 1000 (B.RequestReport 1) 15
     -- P7 period 864000 accepted, 864001 and 0 malformed
     ∷ reads (item 19 1 24 (2 ∷ 0x00 ∷ 0x0D ∷ 0x2F ∷ 0x00 ∷ [])) 1000 (B.ApplyCharging Two (record { 0 = 864000 })) 19
     ∷ malformed (item 19 1 24 (2 ∷ 0x00 ∷ 0x0D ∷ 0x2F ∷ 0x01 ∷ []))
@@ -44,6 +51,15 @@ edges =
 pub edges-hold : map (λ (c : Case). readItem (c .bytes)) edges ≡ map (λ (c : Case). c .says) edges
 unfolding all same itemBytes itemInRange restAt bodyFrom bodyOf itemOf isItem readItem
 edges-hold = refl
+
+pub p2-entry : readEntry p2 15 ≡ E.Entry (record { point = 6; leg = 2; mode = 0; timer = record { 0 = 30 } }) 20
+unfolding readEntry entryOf
+p2-entry = refl
+
+-- P6 stored 491 matches 4915 and 491, not 49
+pub p6 : map (matches (record { nature = 4; digits = 4 ∷ 9 ∷ 1 ∷ [] }) 4) ((4 ∷ 9 ∷ 1 ∷ 5 ∷ []) ∷ (4 ∷ 9 ∷ 1 ∷ []) ∷ (4 ∷ 9 ∷ []) ∷ []) ≡ true ∷ true ∷ false ∷ []
+unfolding leads
+p6 = refl
 
 abbrev badItems : List (List ℕ)
 badItems =
@@ -65,13 +81,34 @@ pub bad-items-refused : map readItem badItems ≡ map (λ (s : List ℕ). R.Refu
 unfolding all same itemBytes itemInRange restAt bodyFrom bodyOf itemOf isItem readItem
 bad-items-refused = refl
 
+-- two profiles: the listing program's, and one with every list
+pub record ProfileCase : Type 0 where
+  pub bytes : List ℕ
+  pub value : Profile
+
+abbrev profiles : List ProfileCase
+profiles =
+    record {
+      bytes = 0x00 ∷ 0x0A ∷ 0x01 ∷ 0x00 ∷ 0x78 ∷ 0x00 ∷ 0x00 ∷ 0x00 ∷ 0x00 ∷ 0x00 ∷ [];
+      value = record { handling = Continue; timer = record { 0 = 120 }; sense = Absent; numbers = []; lengths = []; services = []; forwarding = Absent };
+    }
+    ∷ record {
+      bytes = 0 ∷ 20 ∷ 1 ∷ 1 ∷ 30 ∷ 1 ∷ 1 ∷ 4 ∷ 3 ∷ 4 ∷ 9 ∷ 1 ∷ 2 ∷ 11 ∷ 12 ∷ 3 ∷ 8 ∷ 9 ∷ 255 ∷ 2 ∷ [];
+      value = record { handling = Release; timer = record { 0 = 30 }; sense = Enabling; numbers = record { nature = 4; digits = 4 ∷ 9 ∷ 1 ∷ [] } ∷ []; lengths = 11 ∷ 12 ∷ []; services = 8 ∷ 9 ∷ 255 ∷ []; forwarding = Inhibiting };
+    }
+    ∷ []
+
+pub profiles-read : (map (λ (c : ProfileCase). readProfile (c .bytes)) profiles ≡ map (λ (c : ProfileCase). P.Profile (viewOf (c .bytes))) profiles) × (map (λ (c : ProfileCase). profileOf (c .bytes)) profiles ≡ map (λ (c : ProfileCase). c .value) profiles)
+unfolding all same fieldsOf profileBytes profileInRange numbersAt numbersEnd viewAt profileOf isProfile readProfile
+profiles-read = (refl, refl)
+
 -- bytes of a profile: length, version and fields as given
 abbrev profile : ℕ → ℕ → List ℕ → List ℕ
 profile length version fields = 0 ∷ length ∷ version ∷ fields
 
 abbrev badProfiles : List (List ℕ)
 badProfiles =
-    -- no bytes; the length one off; version 0 and 2; a byte after the forwarding byte; none for it
+    -- no bytes; the length one off; version 0 and 2; a byte after the forwarding byte; that byte missing
     [] ∷ profile 9 1 (0 ∷ 120 ∷ 0 ∷ 0 ∷ 0 ∷ 0 ∷ 0 ∷ []) ∷ profile 11 1 (0 ∷ 120 ∷ 0 ∷ 0 ∷ 0 ∷ 0 ∷ 0 ∷ []) ∷ profile 10 0 (0 ∷ 120 ∷ 0 ∷ 0 ∷ 0 ∷ 0 ∷ 0 ∷ []) ∷ profile 10 2 (0 ∷ 120 ∷ 0 ∷ 0 ∷ 0 ∷ 0 ∷ 0 ∷ [])
     ∷ profile 11 1 (0 ∷ 120 ∷ 0 ∷ 0 ∷ 0 ∷ 0 ∷ 0 ∷ 0 ∷ []) ∷ profile 9 1 (0 ∷ 120 ∷ 0 ∷ 0 ∷ 0 ∷ 0 ∷ [])
     -- handling 2; timers 9 and 181; sense 3; forwarding 3

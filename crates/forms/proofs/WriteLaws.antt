@@ -1,15 +1,14 @@
 -- Laws of writing, for the proofs of `write_item` and the functions below it.
 use Prim.Native.Nat.{ℕ, _+_, _≤_, _<_}
-use mathlib.Core.Path.{_≡_, sym, _∙_}
-use mathlib.Core.List.{List, _∷_, _++_}
+use mathlib.Core.Path.{_≡_, sym}
+use mathlib.Core.List.{List, _++_}
 use mathlib.Core.Bool.{true, false}
 use native.Mathlib.Nat.{zero-add}
 use native.Mathlib.Omega.{arith}
 use borrow.Author.Tests.{le-leb, lt-leb}
 use lib.ListN.{length, length-append}
 use lib.Seq.{sets, sets-eq}
-use Rattle.forms.specs.Bytes.{toBytes}
-use Rattle.forms.specs.Item.{formOf, fieldBytes, itemBytes, itemInRange, restAt, headOf}
+use Rattle.forms.specs.Item.{itemBytes, itemInRange, restAt}
 use Rattle.forms.specs.Write.{writable, written, after}
 use Rattle.forms.specs.declared.item.Item.{Item}
 use Rattle.forms.specs.declared.write.Written.the-variants as W
