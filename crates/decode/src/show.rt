@@ -17,12 +17,7 @@ use forms::write::Written;
 // The kind's number: that of the body read, not of the byte it was read from.
 fn kind_of(body: Body) -> u64 {
     match body {
-        Body::Setup {
-            nature: _,
-            service: _,
-            forwarded: _,
-            count: _,
-        } => 1,
+        Body::Setup(_, _, _, _) => 1,
         Body::RouteFailure(_) => 2,
         Body::Busy(_) => 3,
         Body::NoAnswer => 4,
@@ -34,10 +29,7 @@ fn kind_of(body: Body) -> u64 {
         Body::PeriodOver(_) => 10,
         Body::RequestReport(_) => 20,
         Body::Continue => 21,
-        Body::Connect {
-            nature: _,
-            count: _,
-        } => 22,
+        Body::Connect(_, _) => 22,
         Body::Release => 23,
         Body::ApplyCharging(_, _) => 24,
         Body::ActivityTest => 25,

@@ -115,14 +115,7 @@ numbersEnd (suc n) s q = numbersEnd n s (listEnd s (q + 1))
 unfoldable pub viewAt : List ℕ → ℕ → ProfileView
 viewAt s l =
     let v = listEnd s l in
-    record {
-      handling = handlingOf (eqb (getD s 3 0) 1);
-      timer = record { 0 = getD s 4 0 };
-      sense = criterionAt s 5;
-      lengths = l;
-      services = v;
-      forwarding = criterionAt s (listEnd s v);
-    }
+    record { handling = handlingOf (eqb (getD s 3 0) 1); timer = record { 0 = getD s 4 0 }; sense = criterionAt s 5; lengths = l; services = v; forwarding = criterionAt s (listEnd s v) }
 
 abbrev pub viewOf : List ℕ → ProfileView
 viewOf s = viewAt s (numbersEnd (getD s 6 0) s 7)
@@ -130,15 +123,7 @@ viewOf s = viewAt s (numbersEnd (getD s 6 0) s 7)
 unfoldable pub profileOf : List ℕ → Profile
 profileOf s =
     let w = viewOf s in
-    record {
-      handling = w .handling;
-      timer = w .timer;
-      sense = w .sense;
-      numbers = numbersAt (getD s 6 0) s 7;
-      lengths = listAt s (w .lengths);
-      services = listAt s (w .services);
-      forwarding = w .forwarding;
-    }
+    record { handling = w .handling; timer = w .timer; sense = w .sense; numbers = numbersAt (getD s 6 0) s 7; lengths = listAt s (w .lengths); services = listAt s (w .services); forwarding = w .forwarding }
 
 -- s is the written form of the profile p, and p is in range
 unfoldable pub isProfile : Profile → List ℕ → Bool

@@ -19,30 +19,29 @@ pub enum Leg {
     Two,
 }
 
-// The fields of a body. The digits or the entries that follow them stay in the lent bytes; `count` says how many there are.
+// The fields of a body. The digits or the entries that follow them stay in the lent bytes; a count says how many there are.
 pub enum Body {
-    Setup {
-        nature: u8,
-        service: u8,
-        forwarded: bool,
-        count: u8,
-    },
+    // Nature, service, forwarded, digit count.
+    Setup(u8, u8, bool, u8),
+    // Cause.
     RouteFailure(u8),
     Busy(u8),
     NoAnswer,
     Seized,
     Answer,
+    // Digit.
     MidCall(u8),
     Moved,
+    // Leg, cause.
     Clear(Leg, u8),
     PeriodOver(Leg),
+    // Count of entries.
     RequestReport(u8),
     Continue,
-    Connect {
-        nature: u8,
-        count: u8,
-    },
+    // Nature, digit count.
+    Connect(u8, u8),
     Release,
+    // Leg, period.
     ApplyCharging(Leg, Tenths),
     ActivityTest,
     Abort,
@@ -121,13 +120,8 @@ fn long_field(kind: u8, a: u8, n: u64, in_range: bool) -> Fixed
     let b = (n / 256 / 256 / 256 % 256) as u8;
     let c = (n / 256 / 256 % 256) as u8;
     let d = (n / 256 % 256) as u8;
-    row(
-        kind,
-        5,
-        [a, b, c, d, (n % 256) as u8],
-        in_range,
-        Rest::Nothing,
-    )
+    let bytes = [a, b, c, d, (n % 256) as u8];
+    row(kind, 5, bytes, in_range, Rest::Nothing)
 }
 
 fn leg_number(leg: Leg) -> u8
@@ -150,12 +144,7 @@ pub(crate) fn fixed_of(body: Body) -> Fixed
     ensures { λ r. ⌜ r ≡ fixedOf (formOf body) ⌝ }
 {
     match body {
-        Body::Setup {
-            nature,
-            service,
-            forwarded,
-            count,
-        } => row(
+        Body::Setup(nature, service, forwarded, count) => row(
             1,
             4,
             [nature, service, forwarded as u8, count, 0],
@@ -186,7 +175,7 @@ pub(crate) fn fixed_of(body: Body) -> Fixed
             Rest::Entries(count),
         ),
         Body::Continue => no_field(21),
-        Body::Connect { nature, count } => row(
+        Body::Connect(nature, count) => row(
             22,
             2,
             [nature, count, 0, 0, 0],
@@ -202,17 +191,12 @@ pub(crate) fn fixed_of(body: Body) -> Fixed
 }
 
 // The body of the kind n: b0 to b3 are its first bytes, `leg` is the leg that b0 stands for, `p` the number from b1 on.
-// A number that no kind has gives an Abort: its own kind, 26, then tells them apart.
+// A number that no kind has gives an Abort, whose row has the kind 26: the bytes are not it.
 fn body_from(n: u8, b0: u8, b1: u8, b2: u8, b3: u8, leg: Leg, p: u64) -> Body
     ensures { λ r. ⌜ r ≡ bodyFrom n b0 b1 b2 b3 leg p ⌝ }
 {
     match n {
-        1 => Body::Setup {
-            nature: b0,
-            service: b1,
-            forwarded: b2 == 1,
-            count: b3,
-        },
+        1 => Body::Setup(b0, b1, b2 == 1, b3),
         2 => Body::RouteFailure(b0),
         3 => Body::Busy(b0),
         4 => Body::NoAnswer,
@@ -224,10 +208,7 @@ fn body_from(n: u8, b0: u8, b1: u8, b2: u8, b3: u8, leg: Leg, p: u64) -> Body
         10 => Body::PeriodOver(leg),
         20 => Body::RequestReport(b0),
         21 => Body::Continue,
-        22 => Body::Connect {
-            nature: b0,
-            count: b1,
-        },
+        22 => Body::Connect(b0, b1),
         23 => Body::Release,
         24 => Body::ApplyCharging(leg, Tenths(p)),
         25 => Body::ActivityTest,

@@ -6,8 +6,7 @@ pub rest-in-range-spec : {M : Type 1} → statement M
 rest-in-range-spec =
     tie.close
     (tie.spec
-    (λ c. search needs) (λ c. search needs) (λ c. search needs) (λ c κs. search needs) (λ c. search needs) (λ c. search needs)
-    (λ c. search needs)
+    (λ c. search needs) (λ c. search needs) (λ c. search needs) (λ c κs. search needs) (λ c. search needs) (λ c. search needs) (λ c. search needs)
     (λ c. simp (c .enum-told .given .1))
     (λ c. simp (c .all-within .ensures, c .before .before .rest .given .1))
     (λ c. simp (c .before .rest2 .given .1)))
