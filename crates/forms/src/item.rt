@@ -133,6 +133,7 @@ fn leg_number(leg: Leg) -> u8
     }
 }
 
+// A byte that is no leg is settled by the comparison with the written form.
 fn leg_of(two: bool) -> Leg
     ensures { λ r. ⌜ r ≡ legOf two ⌝ }
 {

@@ -38,12 +38,13 @@ pub enum ReadProfile {
     Refused(u8),
 }
 
-// Stored numbers: whether all are in range, and the place after them.
+// What a walk over the stored numbers finds.
 pub(crate) struct Numbers {
     pub in_range: bool,
     pub end: usize,
 }
 
+// A byte that is neither number of a choice is settled by `is_written`.
 fn handling_of(release: bool) -> Handling
     ensures { λ r. ⌜ r ≡ handlingOf release ⌝ }
 {
@@ -91,6 +92,7 @@ pub fn list_at(s: &[u8], q: usize) -> &[u8]
     bytes::part_of(t, 1, bytes::size(bytes::at(t, 0)))
 }
 
+// The place after that list. Places stay small: even 255 numbers of 255 digits end by 7 + 255 × 257 = 65542, and two lists follow them.
 fn list_end(s: &[u8], q: usize) -> usize
     requires { ⌜ q ≤ 70000 ⌝ }
     ensures { λ r. ⌜ (r ≡ listEnd (now (s .entry)) q) × (r ≤ q + 256) ⌝ }
@@ -110,7 +112,7 @@ fn number_in_range(s: &[u8], q: usize) -> bool
         & bytes::all_within(digits, 0, fields::DIGIT)
 }
 
-// The n stored numbers.
+// The n stored numbers: whether all are in range, and where they end.
 fn walk_numbers(s: &[u8], n: u8) -> Numbers
     ensures { λ r. ⌜ ((r .in_range ≡ allInRange (numberFields (numbersAt n (now (s .entry)) 7))) × (r .end ≡ numbersEnd n (now (s .entry)) 7)) × (r .end ≤ 65542) ⌝ }
 {
@@ -157,7 +159,7 @@ fn is_written(s: &[u8], v: usize) -> bool
         & (bytes::from(s, f).len() == 1)
 }
 
-// The single fields and the lists are in range; so are the numbers, where `numbers` says so.
+// Every field is in its range. `numbers` says whether the stored numbers are: the walk over them has found out.
 fn is_in_range(s: &[u8], p: ProfileView, numbers: bool) -> bool
     ensures { λ r. ⌜ r ≡ ((within 10 180 (p .timer .0) && leb (getD (now (s .entry)) 6 0) 10 && numbers && leb (length (listAt (now (s .entry)) (p .lengths))) 3 && all (within 1 15) (listAt (now (s .entry)) (p .lengths)) && leb (length (listAt (now (s .entry)) (p .services))) 5) && senseInRange (p .sense) (getD (now (s .entry)) 6 0 + length (listAt (now (s .entry)) (p .lengths)))) ⌝ }
 {
@@ -188,6 +190,7 @@ pub fn read_profile(s: &[u8]) -> ReadProfile
     }
 }
 
+// The stored number at place q matches the dialled one.
 fn match_at(s: &[u8], q: usize, nature: u8, dialled: &[u8]) -> bool
     requires { ⌜ q ≤ 70000 ⌝ }
     ensures { λ r. ⌜ r ≡ matches (numberAt (now (s .entry)) q) nature (now (dialled .entry)) ⌝ }
