@@ -9,4 +9,4 @@ entry-of-spec =
     tie.close
     (tie.spec
     (λ c κs. search needs) (λ c κs. search needs) (λ c κs. search needs) (λ c κs. search needs) (λ c κs. search needs) (λ c. search needs)
-    (λ c. cc))
+    (λ c. rw (c .number2 .ensures .0, c .before .from .ensures, c .before .before .at3 .ensures, c .before .before .before .at2 .ensures, c .before .before .before .before .at .ensures)))

@@ -6,4 +6,4 @@ pub nth-entry-spec : {M : Type 1} → statement M
 nth-entry-spec =
     tie.close
     (tie.spec
-    (λ c κs. search needs) (λ c. search needs) (λ c κs. search needs) (λ c κs. search needs) (λ c. cc))
+    (λ c κs. search needs) (λ c. search needs) (λ c κs. search needs) (λ c κs. search needs) (λ c. rw (c .entry-of .ensures, c .before .from .ensures, c .before .before .size .ensures .0)))

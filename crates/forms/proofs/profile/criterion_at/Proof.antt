@@ -6,4 +6,4 @@ pub criterion-at-spec : {M : Type 1} → statement M
 criterion-at-spec =
     tie.close
     (tie.spec
-    (λ c κs. search needs) (λ c κs. search needs) (λ c. cc))
+    (λ c κs. search needs) (λ c κs. search needs) (λ c. rw (c .criterion-of .ensures, c .before .at .ensures)))

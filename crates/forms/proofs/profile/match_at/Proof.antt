@@ -6,4 +6,4 @@ pub match-at-spec : {M : Type 1} → statement M
 match-at-spec =
     tie.close
     (tie.spec
-    (λ c κs. search needs) (λ c. search needs) (λ c κs. search needs) (λ c κs. search needs) (λ c. cc))
+    (λ c κs. search needs) (λ c. search needs) (λ c κs. search needs) (λ c κs. search needs) (λ c. rw (c .leads .ensures, c .before .list-at .ensures, c .before .before .at .ensures)))

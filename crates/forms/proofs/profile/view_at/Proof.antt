@@ -9,4 +9,4 @@ view-at-spec =
     tie.close
     (tie.spec
     (λ c κs. search needs) (λ c κs. search needs) (λ c κs. search needs) (λ c κs. search needs) (λ c κs. search needs) (λ c κs. search needs)
-    (λ c κs. search needs) (λ c. search needs) (λ c. (cc, search needs)))
+    (λ c κs. search needs) (λ c. search needs) (λ c. (rw (c .at2 .ensures, c .before .criterion-at2 .ensures, c .before .before .list-end2 .ensures .0, c .before .before .before .criterion-at .ensures, c .before .before .before .before .handling-of .ensures, c .before .before .before .before .before .at .ensures, c .before .before .before .before .before .before .list-end .ensures .0), search needs)))
