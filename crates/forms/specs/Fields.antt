@@ -25,10 +25,11 @@ byte b = run (b ∷ [])
 abbrev pub nature : ℕ → Field
 nature n = byte n (within 0 127 n)
 
+-- service (basic service code)
 abbrev pub service : ℕ → Field
 service n = byte n true
 
--- forwarded 0/1
+-- forwarded 0/1 (call subject to call forwarding)
 abbrev pub flag : Bool → ℕ
 flag false = 0
 flag true = 1
@@ -49,11 +50,11 @@ digits ds = run ds (all isDigit ds)
 abbrev pub digit : ℕ → Field
 digit d = byte d (isDigit d)
 
--- cause 0..127
+-- cause 0..127 (ISUP cause value)
 abbrev pub cause : ℕ → Field
 cause n = byte n (within 0 127 n)
 
--- leg 1/2
+-- leg 1/2 (legID)
 abbrev pub legNumber : Leg → ℕ
 legNumber One = 1
 legNumber Two = 2
@@ -65,7 +66,7 @@ leg l = byte (legNumber l) true
 abbrev pub entryCount : ℕ → Field
 entryCount n = byte n (within 1 10 n)
 
--- period (4 bytes) 1..864000
+-- period (4 bytes) 1..864000 (maxCallPeriodDuration)
 abbrev pub period : Tenths → Field
 period p = run (toBytes 4 (p .0)) (isPeriod p)
 

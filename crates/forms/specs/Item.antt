@@ -21,7 +21,7 @@ use Rattle.forms.specs.declared.item.ReadItem.the-variants as R
 use Rattle.forms.specs.declared.item.ReadEntry.{ReadEntry}
 use Rattle.forms.specs.declared.item.ReadEntry.the-variants as E
 
--- ---- the table of kinds
+-- ---- the table of kinds. In the standards' words: Period over is the expiry of Tcp, Request report is RequestReportBCSMEvent, Release is ReleaseCall, Moved a change of position
 
 -- a row: the kind's number, its fields, and what follows them
 pub record Form : Type 0 where
@@ -119,7 +119,7 @@ placed a (R.Refused n) = R.Refused n
 unfoldable pub readItemAt : List ℕ → ℕ → ReadItem
 readItemAt s a = placed a (readItem (drop a s))
 
--- ---- the entries of a Request report: "point, leg, mode, timer (2 bytes)", written and read
+-- ---- the entries of a Request report (detection point, legID, monitor mode, application timer): "point, leg, mode, timer (2 bytes)", written and read
 
 abbrev pub entryBytes : Entry → List ℕ
 entryBytes e = e .point ∷ e .leg ∷ e .mode ∷ toBytes 2 (e .timer .0)

@@ -1,4 +1,4 @@
--- Document 01, Forms: the profile. Its fields stand in one list, in the paper's order; reading has no rules of its own, as with items.
+-- Document 01, Forms: the profile (the standards' CAMEL Subscription Information, O-CSI). `fieldsOf` has its fields in the paper's order; reading has no rules of its own, as with items.
 use Prim.Native.Nat.{ℕ, zero, suc, _+_}
 use mathlib.Core.List.{List, [], _∷_, _++_}
 use mathlib.Core.Bool.{Bool, true, false, _&&_, _||_, cond}
@@ -17,10 +17,12 @@ use Rattle.forms.specs.declared.profile.ReadProfile.the-variants as R
 
 -- ---- the value
 
+-- a stored number (destination number string)
 pub record Number : Type 0 where
   pub nature : ℕ
   pub digits : List ℕ
 
+-- Default Call Handling; default TNRy; the destination number criterion with its sense, numbers and lengths; basic service codes; whether the call is subject to forwarding
 pub record Profile : Type 0 where
   pub handling : Handling
   pub timer : Seconds

@@ -21,14 +21,14 @@ longestTimer = 2047
 abbrev pub clockEnd : ℕ
 clockEnd = 281474976710656
 
--- a charged period (maxCallPeriodDuration)
+-- a charged period (maxCallPeriodDuration), 1..864000
 abbrev pub isPeriod : Tenths → Bool
 isPeriod p = within 1 longestPeriod (p .0)
 
 abbrev pub periodOf : ℕ → Period
 periodOf n = let p : Tenths = record { 0 = n } in cond (isPeriod p) (P.Of p) (P.Refused 1)
 
--- a no-answer timer (TNRy), 0 for none
+-- a no-answer timer (TNRy), 0..2047, 0 for none
 abbrev pub isTimer : Seconds → Bool
 isTimer t = leb (t .0) longestTimer
 
