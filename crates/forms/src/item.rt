@@ -8,7 +8,7 @@ ghost use lib.Dec.{eqb, ltb};
 ghost use Rattle.forms.specs.Bytes.{toBytes, leads};
 ghost use Rattle.forms.specs.Units.{clockEnd};
 ghost use Rattle.forms.specs.Fields.{legNumber, frame};
-ghost use Rattle.forms.specs.Item.{formOf, restInRange, legOf, bodyFrom, itemOf, readItem, readItemAt, entryOf, readEntry, fixed, fixedOf};
+ghost use Rattle.forms.specs.Item.{formOf, restInRange, legOf, bodyFrom, itemOf, isItem, readItem, readItemAt, entryOf, readEntry, fixed, fixedOf};
 use crate::bytes;
 use crate::fields;
 use crate::units::Seconds;
@@ -279,6 +279,14 @@ pub(crate) fn item_in_range(item: Item, f: Fixed, t: &[u8]) -> bool
     f.in_range & rest_in_range(rest, t) & (time < Tenths::CLOCK_END.0)
 }
 
+// The bytes are the item that was read from them, f its row: only what reading does not settle by itself is tested.
+fn is_item(item: Item, f: Fixed, s: &[u8]) -> bool
+    requires { ⌜ ((item ≡ itemOf (now s)) × (f ≡ fixedOf (formOf (item .body)))) × (14 ≤ length (now s)) ⌝ }
+    ensures { λ r. ⌜ r ≡ isItem item (now (s .entry)) ⌝ }
+{
+    starts(f, s) & item_in_range(item, f, bytes::from(s, rest_at(f)))
+}
+
 // The item that the bytes are, or refusal 1.
 pub fn read_item(s: &[u8]) -> ReadItem
     ensures { λ r. ⌜ r ≡ readItem (now (s .entry)) ⌝ }
@@ -289,9 +297,8 @@ pub fn read_item(s: &[u8]) -> ReadItem
     let item = item_of(s);
     let body = item.body;
     let f = fixed_of(body);
-    let at = rest_at(f);
-    if starts(f, s) & item_in_range(item, f, bytes::from(s, at)) {
-        ReadItem::Item(item, at)
+    if is_item(item, f, s) {
+        ReadItem::Item(item, rest_at(f))
     } else {
         ReadItem::Refused(1)
     }

@@ -7,7 +7,7 @@ ghost use lib.ListN.{length, getD, drop};
 ghost use lib.Dec.{leb, eqb};
 ghost use Rattle.forms.specs.Bytes.{within, all, leads};
 ghost use Rattle.forms.specs.Fields.{allInRange, frame};
-ghost use Rattle.forms.specs.Profile.{handlingOf, criterionOf, criterionAt, numberFields, senseInRange, listAt, listEnd, numberAt, numbersAt, numbersEnd, viewAt, profileOf, readProfile, matches, someMatches};
+ghost use Rattle.forms.specs.Profile.{handlingOf, criterionOf, criterionAt, numberFields, senseInRange, listAt, listEnd, numberAt, numbersAt, numbersEnd, viewAt, viewOf, profileOf, isProfile, readProfile, matches, someMatches};
 use crate::bytes;
 use crate::fields;
 use crate::units::Seconds;
@@ -112,11 +112,11 @@ fn number_in_range(s: &[u8], q: usize) -> bool
         & bytes::all_within(digits, 0, fields::DIGIT)
 }
 
-// The n stored numbers: whether all are in range, and where they end.
-fn walk_numbers(s: &[u8], n: u8) -> Numbers
-    ensures { λ r. ⌜ ((r .in_range ≡ allInRange (numberFields (numbersAt n (now (s .entry)) 7))) × (r .end ≡ numbersEnd n (now (s .entry)) 7)) × (r .end ≤ 65542) ⌝ }
+// The stored numbers: whether all are in range, and where they end.
+fn walk_numbers(s: &[u8]) -> Numbers
+    ensures { λ r. ⌜ ((r .in_range ≡ allInRange (numberFields (numbersAt (getD (now (s .entry)) 6 0) (now (s .entry)) 7))) × (r .end ≡ numbersEnd (getD (now (s .entry)) 6 0) (now (s .entry)) 7)) × (r .end ≤ 65542) ⌝ }
 {
-    let mut left = n;
+    let mut left = bytes::at(s, 6);
     let mut in_range = true;
     let mut q: usize = 7;
     while 0 < left {
@@ -177,13 +177,21 @@ fn is_in_range(s: &[u8], p: ProfileView, numbers: bool) -> bool
         & sense_in_range(sense, bytes::size(n) + lengths.len())
 }
 
+// The bytes are the profile whose view p was read from them.
+fn is_profile(s: &[u8], p: ProfileView, numbers: bool) -> bool
+    requires { ⌜ ((p ≡ viewOf (now s)) × (numbers ≡ allInRange (numberFields (numbersAt (getD (now s) 6 0) (now s) 7)))) × (p .services ≤ 66000) ⌝ }
+    ensures { λ r. ⌜ r ≡ isProfile (profileOf (now (s .entry))) (now (s .entry)) ⌝ }
+{
+    is_written(s, p.services) & is_in_range(s, p, numbers)
+}
+
 // The profile that the bytes are, or refusal 2.
 pub fn read_profile(s: &[u8]) -> ReadProfile
     ensures { λ r. ⌜ r ≡ readProfile (now (s .entry)) ⌝ }
 {
-    let w = walk_numbers(s, bytes::at(s, 6));
+    let w = walk_numbers(s);
     let p = view_at(s, w.end);
-    if is_written(s, p.services) & is_in_range(s, p, w.in_range) {
+    if is_profile(s, p, w.in_range) {
         ReadProfile::Profile(p)
     } else {
         ReadProfile::Refused(2)
