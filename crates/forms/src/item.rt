@@ -3,11 +3,11 @@ ghost use mathlib.Core.Path.{_≡_};
 ghost use mathlib.Core.List.{[], _∷_};
 ghost use mathlib.Core.Bool.{true, _&&_};
 ghost use Prim.Native.Nat.{_+_, _*_, _≤_};
-ghost use lib.ListN.{length, getD, take, drop};
-ghost use lib.Dec.{eqb, ltb};
-ghost use Rattle.forms.specs.Bytes.{toBytes, leads};
+ghost use lib.ListN.{length, drop};
+ghost use lib.Dec.{ltb};
+ghost use Rattle.forms.specs.Bytes.{toBytes};
 ghost use Rattle.forms.specs.Units.{clockEnd};
-ghost use Rattle.forms.specs.Fields.{legNumber, frame};
+ghost use Rattle.forms.specs.Fields.{legNumber};
 ghost use Rattle.forms.specs.Item.{formOf, restInRange, legOf, bodyFrom, itemOf, isItem, readItem, readItemAt, entryOf, readEntry, fixed, fixedOf};
 use crate::bytes;
 use crate::fields;
@@ -246,19 +246,6 @@ pub(crate) fn rest_at(f: Fixed) -> usize
     14 + bytes::size(f.len)
 }
 
-// The bytes are framed, of the kind of the row f, and its fields are written there.
-fn starts(f: Fixed, s: &[u8]) -> bool
-    ensures { λ r. ⌜ r ≡ ((leads (frame (length (now (s .entry)))) (now (s .entry)) && eqb (f .kind) (getD (now (s .entry)) 3 0)) && leads (take (f .len) (f .bytes)) (drop 14 (now (s .entry)))) ⌝ }
-{
-    let row = f.bytes;
-    fields::is_framed(s)
-        & (f.kind == bytes::at(s, 3))
-        & bytes::leads(
-            bytes::part_of(&row, 0, bytes::size(f.len)),
-            bytes::from(s, 14),
-        )
-}
-
 fn rest_in_range(rest: Rest, t: &[u8]) -> bool
     ensures { λ r. ⌜ r ≡ restInRange rest (now (t .entry)) ⌝ }
 {
@@ -284,7 +271,12 @@ fn is_item(item: Item, f: Fixed, s: &[u8]) -> bool
     requires { ⌜ ((item ≡ itemOf (now s)) × (f ≡ fixedOf (formOf (item .body)))) × (14 ≤ length (now s)) ⌝ }
     ensures { λ r. ⌜ r ≡ isItem item (now (s .entry)) ⌝ }
 {
-    starts(f, s) & item_in_range(item, f, bytes::from(s, rest_at(f)))
+    let row = f.bytes;
+    let written = bytes::part_of(&row, 0, bytes::size(f.len));
+    fields::is_framed(s)
+        & (f.kind == bytes::at(s, 3))
+        & bytes::leads(written, bytes::from(s, 14))
+        & item_in_range(item, f, bytes::from(s, rest_at(f)))
 }
 
 // The item that the bytes are, or refusal 1.

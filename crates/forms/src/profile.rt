@@ -1,12 +1,9 @@
 // Profiles: reading, and what triggering asks of one (document 01, Forms and Triggering). The lists stay in the lent bytes.
 ghost use mathlib.Core.Path.{_≡_};
 ghost use mathlib.Core.List.{[], _∷_};
-ghost use mathlib.Core.Bool.{_&&_};
 ghost use Prim.Native.Nat.{_+_, _≤_};
-ghost use lib.ListN.{length, getD, drop};
-ghost use lib.Dec.{leb, eqb};
-ghost use Rattle.forms.specs.Bytes.{within, all, leads};
-ghost use Rattle.forms.specs.Fields.{allInRange, frame};
+ghost use lib.ListN.{getD};
+ghost use Rattle.forms.specs.Fields.{allInRange};
 ghost use Rattle.forms.specs.Profile.{handlingOf, criterionOf, criterionAt, numberFields, senseInRange, listAt, listEnd, numberAt, numbersAt, numbersEnd, viewAt, viewOf, profileOf, isProfile, readProfile, matches, someMatches};
 use crate::bytes;
 use crate::fields;
@@ -44,7 +41,7 @@ pub(crate) struct Numbers {
     pub end: usize,
 }
 
-// A byte that is neither number of a choice is settled by `is_written`.
+// A byte that is neither number of a choice is settled by `is_profile`.
 fn handling_of(release: bool) -> Handling
     ensures { λ r. ⌜ r ≡ handlingOf release ⌝ }
 {
@@ -146,43 +143,30 @@ fn view_at(s: &[u8], l: usize) -> ProfileView
     }
 }
 
-// The bytes are written as a profile is, whose list of services stands at v: length, version, the three choices, and nothing after the last.
-fn is_written(s: &[u8], v: usize) -> bool
-    requires { ⌜ v ≤ 66000 ⌝ }
-    ensures { λ r. ⌜ r ≡ (leads (frame (length (now (s .entry)))) (now (s .entry)) && leb (getD (now (s .entry)) 3 0) 1 && leb (getD (now (s .entry)) 5 0) 2 && leb (getD (now (s .entry)) (listEnd (now (s .entry)) v) 0) 2 && eqb (length (drop (listEnd (now (s .entry)) v) (now (s .entry)))) 1) ⌝ }
-{
-    let f = list_end(s, v);
-    fields::is_framed(s)
-        & (bytes::at(s, 3) <= 1)
-        & (bytes::at(s, 5) <= 2)
-        & (bytes::at(s, f) <= 2)
-        & (bytes::from(s, f).len() == 1)
-}
-
-// Every field is in its range. `numbers` says whether the stored numbers are: the walk over them has found out.
-fn is_in_range(s: &[u8], p: ProfileView, numbers: bool) -> bool
-    ensures { λ r. ⌜ r ≡ ((within 10 180 (p .timer .0) && leb (getD (now (s .entry)) 6 0) 10 && numbers && leb (length (listAt (now (s .entry)) (p .lengths))) 3 && all (within 1 15) (listAt (now (s .entry)) (p .lengths)) && leb (length (listAt (now (s .entry)) (p .services))) 5) && senseInRange (p .sense) (getD (now (s .entry)) 6 0 + length (listAt (now (s .entry)) (p .lengths)))) ⌝ }
+// The bytes are the profile whose view p was read from them: length and version, the three choices and the end are as written, and every field is in range.
+// `numbers` says whether the stored numbers are: the walk over them has found out.
+fn is_profile(s: &[u8], p: ProfileView, numbers: bool) -> bool
+    requires { ⌜ ((p ≡ viewOf (now s)) × (numbers ≡ allInRange (numberFields (numbersAt (getD (now s) 6 0) (now s) 7)))) × (p .services ≤ 66000) ⌝ }
+    ensures { λ r. ⌜ r ≡ isProfile (profileOf (now (s .entry))) (now (s .entry)) ⌝ }
 {
     let timer = p.timer.0;
     let sense = p.sense;
     let lengths = list_at(s, p.lengths);
     let services = list_at(s, p.services);
+    let f = list_end(s, p.services);
     let n = bytes::at(s, 6);
-    ((10 <= timer) & (timer <= 180))
+    let written = fields::is_framed(s)
+        & (bytes::at(s, 3) <= 1)
+        & (bytes::at(s, 5) <= 2)
+        & (bytes::at(s, f) <= 2)
+        & (bytes::from(s, f).len() == 1);
+    let in_range = ((10 <= timer) & (timer <= 180))
         & (n <= 10)
         & numbers
         & (lengths.len() <= 3)
         & bytes::all_within(lengths, 1, fields::DIGITS)
-        & (services.len() <= 5)
-        & sense_in_range(sense, bytes::size(n) + lengths.len())
-}
-
-// The bytes are the profile whose view p was read from them.
-fn is_profile(s: &[u8], p: ProfileView, numbers: bool) -> bool
-    requires { ⌜ ((p ≡ viewOf (now s)) × (numbers ≡ allInRange (numberFields (numbersAt (getD (now s) 6 0) (now s) 7)))) × (p .services ≤ 66000) ⌝ }
-    ensures { λ r. ⌜ r ≡ isProfile (profileOf (now (s .entry))) (now (s .entry)) ⌝ }
-{
-    is_written(s, p.services) & is_in_range(s, p, numbers)
+        & (services.len() <= 5);
+    written & (in_range & sense_in_range(sense, bytes::size(n) + lengths.len()))
 }
 
 // The profile that the bytes are, or refusal 2.
