@@ -8,7 +8,7 @@ ghost use lib.Dec.{ltb};
 ghost use Rattle.forms.specs.Bytes.{toBytes};
 ghost use Rattle.forms.specs.Units.{clockEnd};
 ghost use Rattle.forms.specs.Fields.{legNumber};
-ghost use Rattle.forms.specs.Item.{formOf, restInRange, legOf, bodyFrom, itemOf, isItem, readItem, readItemAt, entryOf, readEntry, fixed, fixedOf};
+ghost use Rattle.forms.specs.Item.{formOf, restInRange, legOf, bodyFrom, itemOf, itemInRange, isItem, readItem, readItemAt, entryOf, readEntry, fixed, fixedOf};
 use crate::bytes;
 use crate::fields;
 use crate::units::Seconds;
@@ -264,6 +264,14 @@ pub(crate) fn item_in_range(item: Item, f: Fixed, t: &[u8]) -> bool
     let time = item.time.0;
     let rest = f.rest;
     f.in_range & rest_in_range(rest, t) & (time < Tenths::CLOCK_END.0)
+}
+
+// The same for an item alone: every field is in its range, and `t` is what follows.
+pub fn in_range(item: Item, t: &[u8]) -> bool
+    ensures { λ r. ⌜ r ≡ itemInRange item (now (t .entry)) ⌝ }
+{
+    let body = item.body;
+    item_in_range(item, fixed_of(body), t)
 }
 
 // The bytes are the item that was read from them, f its row: only what reading does not settle by itself is tested.

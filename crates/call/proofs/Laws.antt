@@ -1,0 +1,181 @@
+-- Laws of tests and of the loops, for the proofs of the functions and for the theorems.
+use Prim.Native.Nat.{ℕ, zero, suc, _+_, _-_, _*_, _≤_, _<_}
+use mathlib.Core.Path.{_≡_, refl, sym, ap, _∙_}
+use mathlib.Core.Bool.{Bool, true, false, cond, _&&_, _||_, and-true, and-assoc, or-false}
+use mathlib.Core.List.{List, [], _∷_, _++_}
+use native.Mathlib.Numerals.{add-one}
+use native.Mathlib.Nat.{sub-eq-zero-of-le}
+use native.Mathlib.Omega.{arith}
+use lib.Dec.{ltb, eqb}
+use lib.ListN.{length, getD, take, drop, set, drop-of-length-le, length-set}
+use lib.Seq.{drop-cons, drop-drop, take-suc-set, take-all}
+use borrow.Author.Tests.{ltb-true, ltb-false, lt-ltb, le-ltb}
+use Rattle.forms.specs.Fields.{isDigit, allInRange}
+use Rattle.forms.specs.Item.{entryOf, pad}
+use Rattle.forms.specs.Item.{formOf, restInRange, itemInRange}
+use Rattle.forms.specs.Profile.{viewOf, profileOf, isProfile, readProfile}
+use Rattle.forms.specs.Units.{clockEnd}
+use Rattle.forms.specs.declared.item.Entry.{Entry}
+use Rattle.forms.specs.declared.item.Item.{Item}
+use Rattle.forms.specs.declared.profile.ProfileView.{ProfileView}
+use Rattle.forms.specs.declared.profile.ReadProfile.the-variants.{Profile, Refused}
+use Rattle.forms.specs.declared.units.Tenths.{Tenths}
+use Rattle.forms.proofs.ByteLaws.{and-left, and-right}
+use Rattle.forms.proofs.ItemLaws.{item-size}
+use Rattle.call.specs.declared.record.Mode.{Mode}
+use Rattle.call.specs.declared.record.Arming.{Arming}
+use Rattle.call.specs.declared.record.Record.{Record}
+use Rattle.call.specs.declared.answers.Check.{Check}
+use Rattle.call.specs.declared.answers.Check.the-variants.{Pass, Fail}
+use Rattle.call.specs.Points.{unarmed}
+use Rattle.call.specs.Relationship.{isMode, someArmed}
+use Rattle.call.specs.Arming.{entriesOf, named, isGood, seenAfter, areGood, isPossible, arePossible, armedBy, armedWith}
+use Rattle.call.specs.Range.{placesInRange}
+
+-- ---- numbers
+
+pub same-tenths : {m n : ℕ} → m ≡ n → _≡_ {A = Tenths} (record { 0 = m }) (record { 0 = n })
+same-tenths e = ap (λ n. record { 0 = n }) e
+
+-- of two tests on numbers that hold together, one decides the other
+pub ltb-same : (a b c d : ℕ) → (a < b → c < d) → (c < d → a < b) → ltb a b ≡ ltb c d
+ltb-same a b c d f g = go (ltb a b) refl
+  where
+    go : (x : Bool) → ltb a b ≡ x → x ≡ ltb c d
+    go true e = sym (lt-ltb c d (f (ltb-true a b e)))
+    go false e = sym (le-ltb c d (let h : b ≤ a = ltb-false a b e in not-lt h))
+      where
+        not-lt : b ≤ a → d ≤ c
+        not-lt h = stay (ltb c d) refl
+          where
+            stay : (y : Bool) → ltb c d ≡ y → d ≤ c
+            stay true k = absurd (let p : a < b = g (ltb-true c d k) in omega arith)
+            stay false k = ltb-false c d k
+
+-- less than p has passed since s exactly if t is before s + p
+pub ltb-shift : (s p t : ℕ) → s ≤ t → ltb (t - s) p ≡ ltb t (s + p)
+ltb-shift s p t h = ltb-same (t - s) p t (s + p) (λ k. omega arith) (λ k. omega arith)
+
+-- ---- refusals: a row that passes does not apply, and those after it pass
+
+pub passes : (b : Bool) (n : ℕ) (c : Check) → cond b (Fail n) c ≡ Pass → (b ≡ false) × (c ≡ Pass)
+passes true n c e = absurd (let z : _≡_ {A = ℕ} 0 1 = cc in omega arith)
+passes false n c e = (refl, e)
+
+-- ---- what was read of a profile, and an item in range
+
+pub profile-read : (s : List ℕ) (v : ProfileView) → readProfile s ≡ Profile v → (isProfile (profileOf s) s ≡ true) × (viewOf s ≡ v)
+unfolding readProfile
+profile-read s v e = go (isProfile (profileOf s) s) e
+  where
+    go : (b : Bool) → cond b (Profile (viewOf s)) (Refused 2) ≡ Profile v → (b ≡ true) × (viewOf s ≡ v)
+    go true h = (refl, cc)
+    go false h = absurd (let z : _≡_ {A = ℕ} 0 1 = cc in omega arith)
+
+pub profile-refused : (s : List ℕ) (n : ℕ) → readProfile s ≡ Refused n → isProfile (profileOf s) s ≡ false
+unfolding readProfile
+profile-refused s n e = go (isProfile (profileOf s) s) e
+  where
+    go : (b : Bool) → cond b (Profile (viewOf s)) (Refused 2) ≡ Refused n → b ≡ false
+    go true h = absurd (let z : _≡_ {A = ℕ} 0 1 = cc in omega arith)
+    go false h = refl
+
+time-fits : (i : Item) (rest : List ℕ) → itemInRange i rest ≡ true → ltb (i .time .0) clockEnd ≡ true
+unfolding itemInRange
+time-fits i rest h = and-right (allInRange (formOf (i .body) .fields) && restInRange (formOf (i .body) .rest) rest) (ltb (i .time .0) clockEnd) h
+
+pub item-fits : (i : Item) (rest : List ℕ) → itemInRange i rest ≡ true → (i .time .0 < clockEnd) × (length rest < 256)
+item-fits i rest h = (ltb-true _ _ (time-fits i rest h), omega (arith, item-size i rest h))
+
+-- ---- a loop over armings: what was found, and what is left
+
+pub armed-step : (m : Mode) (a : List Arming) (i : ℕ) (found : Bool) → i < length a
+    → (found || isMode (getD a i unarmed .mode) m || someArmed m (drop (i + 1) a)) ≡ (found || someArmed m (drop i a))
+unfolding someArmed
+armed-step m a i true h = refl
+armed-step m a i false h = rw (add-one, drop-cons a i unarmed h)
+
+pub armed-end : (m : Mode) (a : List Arming) (i : ℕ) (found : Bool) → length a ≤ i → (found || someArmed m (drop i a)) ≡ found
+unfolding someArmed
+armed-end m a i found h = rw (drop-of-length-le a h, or-false)
+
+-- ---- loops over the places of a number
+
+-- a byte more
+pub pad-next : (n : ℕ) (s : List ℕ) → pad (suc n) s ≡ pad n s ++ (getD s n 0 ∷ [])
+pad-next zero [] = refl
+pad-next zero (x ∷ s) = refl
+pad-next (suc n) [] = ap (λ (l : List ℕ). 0 ∷ l) (pad-next n [])
+pad-next (suc n) (x ∷ s) = ap (λ (l : List ℕ). x ∷ l) (pad-next n s)
+
+pub pad-step : (d s : List ℕ) (i : ℕ) → i < length d → take i d ≡ pad i s → take (i + 1) (set d i (getD s i 0)) ≡ pad (i + 1) s
+pad-step d s i h e = rw (add-one, take-suc-set d i (getD s i 0) h, e) (sym (pad-next i s))
+
+place-next : (c d : ℕ) (ds : List ℕ) → placesInRange c (d ∷ ds) ≡ (cond (ltb 0 c) (isDigit d) (eqb d 0) && placesInRange (c - 1) ds)
+unfolding placesInRange
+place-next zero d ds = refl
+place-next (suc c) d ds = let e : suc c - 1 ≡ c = omega arith in rw (lt-ltb 0 (suc c) (omega arith), e)
+
+pub places-step : (c : ℕ) (l : List ℕ) (i : ℕ) (ok : Bool) → i < length l
+    → (ok && cond (ltb i c) (isDigit (getD l i 0)) (eqb (getD l i 0) 0) && placesInRange (c - (i + 1)) (drop (i + 1) l)) ≡ (ok && placesInRange (c - i) (drop i l))
+places-step c l i ok h =
+    let e : c - (i + 1) ≡ c - i - 1 = omega arith in
+    let t : ltb i c ≡ ltb 0 (c - i) = ltb-same i c 0 (c - i) (λ k. omega arith) (λ k. omega arith) in
+    rw (and-assoc, e, t, drop-cons l i 0 h, add-one, place-next (c - i) (getD l i 0) (drop (suc i) l))
+
+pub places-end : (c : ℕ) (l : List ℕ) (i : ℕ) (ok : Bool) → length l ≤ i → (ok && placesInRange c (drop i l)) ≡ ok
+unfolding placesInRange
+places-end c l i ok h = rw (drop-of-length-le l h, and-true)
+
+-- ---- loops over entries: those from i on begin with entry i
+
+module _ (n i : ℕ) (t : List ℕ) where
+  abbrev from : List Entry
+  from = entriesOf (n - i) (drop (i * 5) t)
+
+  abbrev next : List Entry
+  next = entriesOf (n - (i + 1)) (drop ((i + 1) * 5) t)
+
+  abbrev entry : Entry
+  entry = entryOf (drop (i * 5) t)
+
+  module _ (h : i < n) where
+    entries-next : from ≡ entry ∷ next
+    unfolding entriesOf
+    entries-next =
+        let e : n - i ≡ suc (n - (i + 1)) = omega arith in
+        let k : i * 5 + 5 ≡ (i + 1) * 5 = omega arith in
+        rw (e, drop-drop 5 (i * 5) t, k)
+
+    pub good-step : (seen : List Bool) → isGood (named entry) seen entry ≡ true → areGood (seenAfter (named entry) seen) next ≡ areGood seen from
+    unfolding areGood
+    good-step seen g = rw (entries-next, g)
+
+    pub good-stop : (seen : List Bool) → isGood (named entry) seen entry ≡ false → areGood seen from ≡ false
+    unfolding areGood
+    good-stop seen g = rw (entries-next, g)
+
+    pub possible-step : (r : Record) (ok : Bool) → (ok && isPossible r (named entry) (entry .mode) && arePossible r next) ≡ (ok && arePossible r from)
+    unfolding arePossible
+    possible-step r ok = rw (entries-next, and-assoc)
+
+    pub arm-step : (r : Record) → armedWith (armedBy r (named entry) entry) next ≡ armedWith r from
+    unfolding armedWith
+    arm-step r = rw entries-next
+
+  module _ (h : n ≤ i) where
+    entries-end : from ≡ []
+    unfolding entriesOf
+    entries-end = rw (sub-eq-zero-of-le h)
+
+    pub good-end : (seen : List Bool) → areGood seen from ≡ true
+    unfolding areGood
+    good-end seen = rw entries-end
+
+    pub possible-end : (r : Record) (ok : Bool) → (ok && arePossible r from) ≡ ok
+    unfolding arePossible
+    possible-end r ok = rw (entries-end, and-true)
+
+    pub arm-end : (r : Record) → armedWith r from ≡ r
+    unfolding armedWith
+    arm-end r = rw entries-end

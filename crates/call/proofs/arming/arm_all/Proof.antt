@@ -1,0 +1,34 @@
+use mathlib.Core.Path.{_≡_, sym, _∙_}
+use Prim.Native.Nat.{_≤_, _-_, _*_}
+use native.Mathlib.Nat.{sub-zero}
+use native.Mathlib.Omega.{arith}
+use borrow.Author.Needs.{needs}
+use lib.ListN.{drop}
+use Rattle.call.specs.Arming.{entriesOf, armedWith}
+use Rattle.call.proofs.Laws.{arm-step, arm-end}
+use Rattle.call.proofs.arming.arm_all.Statement.{statement}
+use Rattle.call.proofs.arming.arm_all.Tie as tie
+
+-- the entries from `i` on are left
+abbrev Inv-loop : tie.InvT-loop
+Inv-loop n t s₀ i₀ s i = (i ≤ n) × (armedWith s (entriesOf (n - i) (drop (i * 5) t)) ≡ armedWith s₀ (entriesOf n t))
+
+abbrev μ-loop : tie.MeasureT-loop
+μ-loop n t s₀ i₀ s i = n - i
+
+loop-again : tie.Need-loop-again Inv-loop μ-loop
+loop-again c =
+    let p = c .before .before .before .before in
+    let a = p .before .before .args in
+    (omega arith, rw (c .arm .ensures, c .before .name-of .ensures, c .before .before .nth-entry .ensures) (arm-step (a .n) (p .loop .i) (a .t .now) (c .before .before .before .loop-test .taken) (p .loop .s) ∙ p .loop .inv .1))
+
+returns : tie.Need-returns Inv-loop μ-loop
+returns c =
+    let p = c .before in
+    let a = p .before .before .args in
+    sym (arm-end (a .n) (p .loop .i) (a .t .now) (c .loop-test .left) (p .loop .s)) ∙ p .loop .inv .1
+
+pub arm-all-spec : {M : Type 1} → statement M
+arm-all-spec =
+    tie.close
+    (tie.spec Inv-loop μ-loop (λ c. (search needs, rw sub-zero)) (λ c κs. search needs) (λ c κs. search needs) (λ c κs. search needs) (λ c. search needs) (λ c. omega arith) loop-again returns)

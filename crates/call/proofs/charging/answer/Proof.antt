@@ -1,0 +1,10 @@
+use borrow.Author.Needs.{needs}
+use Rattle.call.proofs.charging.answer.Statement.{statement}
+use Rattle.call.proofs.charging.answer.Tie as tie
+
+pub answer-spec : {M : Type 1} → statement M
+answer-spec =
+    tie.close
+    (tie.spec (search needs) (search needs) (search needs) (λ c. search needs)
+    (λ c. simp (c .before .c .given .1))
+    (λ c. simp (c .before .c2 .given .1)))

@@ -1,0 +1,11 @@
+use mathlib.Core.Path.{sym, _∙_}
+use borrow.Author.Needs.{needs}
+use Rattle.call.proofs.charging.grant.Statement.{statement}
+use Rattle.call.proofs.charging.grant.Tie as tie
+
+pub grant-spec : {M : Type 1} → statement M
+grant-spec =
+    tie.close
+    (tie.spec (search needs)
+    (λ c. rw (sym (c .before .is-active .ensures) ∙ c .if1 .taken))
+    (λ c. rw (sym (c .before .is-active .ensures) ∙ c .if1 .left)))

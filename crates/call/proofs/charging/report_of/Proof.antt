@@ -1,0 +1,10 @@
+use borrow.Author.Needs.{needs}
+use Rattle.call.proofs.charging.report_of.Statement.{statement}
+use Rattle.call.proofs.charging.report_of.Tie as tie
+
+pub report-of-spec : {M : Type 1} → statement M
+report-of-spec =
+    tie.close
+    (tie.spec (search needs) (search needs) (search needs) (search needs) (λ c. search needs)
+    (λ c. simp (c .enum-told2 .given .1))
+    (λ c. simp (c .elapsed .ensures, c .before .before .c .given .1)))

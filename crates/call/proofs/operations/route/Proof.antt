@@ -1,0 +1,9 @@
+use borrow.Author.Needs.{needs}
+use Rattle.call.proofs.operations.route.Statement.{statement}
+use Rattle.call.proofs.operations.route.Tie as tie
+
+pub route-spec : {M : Type 1} → statement M
+route-spec =
+    tie.close
+    (tie.spec (search needs) (search needs) (search needs) (search needs)
+    (λ c. simp (c .go-on .ensures, c .before .reports-of .ensures, c .before .before .deadline-after .ensures, c .before .before .before .route-timer .ensures)))

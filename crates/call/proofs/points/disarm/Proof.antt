@@ -1,0 +1,15 @@
+use borrow.Author.Needs.{needs}
+use Rattle.call.proofs.points.disarm.Statement.{statement}
+use Rattle.call.proofs.points.disarm.Tie as tie
+
+pub disarm-spec : {M : Type 1} → statement M
+disarm-spec =
+    tie.close
+    (tie.spec (search needs) (search needs) (search needs) (search needs) (search needs) (search needs) (search needs)
+    (search needs) (search needs) (search needs) (search needs) (search needs) (search needs) (search needs)
+    (search needs) (search needs) (search needs) (search needs) (search needs) (search needs) (λ c. search needs)
+    (λ c. search needs) (λ c. search needs) (λ c. search needs) (λ c. search needs)
+    (λ c. simp (c .without .ensures, c .before .enum-told6 .given .1))
+    (λ c. simp (c .without2 .ensures, c .before .enum-told7 .given .1))
+    (λ c. simp (c .without3 .ensures, c .before .enum-told8 .given .1))
+    (λ c. search needs) (λ c. search needs))

@@ -1,0 +1,20 @@
+use borrow.Author.Needs.{needs}
+use Rattle.call.proofs.relationship.relationship_of.Statement.{statement}
+use Rattle.call.proofs.relationship.relationship_of.Tie as tie
+
+returns-2 : tie.Need-returns-2
+returns-2 c =
+    let b = c .before .before .before .before .before .before in
+    rw (← b .before .before .is-held .ensures, ← b .before .some-armed .ensures, b .if1 .left, ← c .before .before .before .some-armed2 .ensures, ← c .before .before .is-pending .ensures, ← c .before .is-pending2 .ensures, c .if2 .taken)
+
+returns-3 : tie.Need-returns-3
+returns-3 c =
+    let b = c .before .before .before .before .before .before in
+    rw (← b .before .before .is-held .ensures, ← b .before .some-armed .ensures, b .if1 .left, ← c .before .before .before .some-armed2 .ensures, ← c .before .before .is-pending .ensures, ← c .before .is-pending2 .ensures, c .if2 .left)
+
+pub relationship-of-spec : {M : Type 1} → statement M
+relationship-of-spec =
+    tie.close
+    (tie.spec (search needs) (search needs)
+    (λ c. rw (← c .before .before .is-held .ensures, ← c .before .some-armed .ensures, c .if1 .taken))
+    (search needs) (search needs) (search needs) returns-2 returns-3)

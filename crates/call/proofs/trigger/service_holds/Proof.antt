@@ -1,0 +1,9 @@
+use borrow.Author.Needs.{needs}
+use Rattle.call.proofs.trigger.service_holds.Statement.{statement}
+use Rattle.call.proofs.trigger.service_holds.Tie as tie
+
+pub service-holds-spec : {M : Type 1} → statement M
+service-holds-spec =
+    tie.close
+    (tie.spec (search needs)
+    (λ c. simp (c .contains .ensures)))

@@ -1,0 +1,82 @@
+-- Document 01, Request report (RequestReportBCSMEvent): "all entries or none; each overwrites its point".
+use Prim.Native.Nat.{ℕ, zero, suc}
+use mathlib.Core.Bool.{Bool, true, false, not, cond, _&&_, _||_}
+use mathlib.Core.List.{List, [], _∷_}
+use lib.Dec.{leb, eqb}
+use lib.ListN.{getD, set, drop, replicate}
+use Rattle.forms.specs.Item.{entryOf}
+use Rattle.forms.specs.Units.{isTimer}
+use Rattle.forms.specs.declared.item.Entry.{Entry}
+use Rattle.forms.specs.declared.units.Seconds.{Seconds}
+use Rattle.call.specs.declared.points.Role.{Role}
+use Rattle.call.specs.declared.points.Role.the-variants.{Moved, NoAnswer}
+use Rattle.call.specs.declared.points.Named.{Named}
+use Rattle.call.specs.declared.points.Named.the-variants.{Unknown, Known}
+use Rattle.call.specs.declared.record.Record.{Record}
+use Rattle.call.specs.Points.{placeOf, isRole, roleOf, occursFrom}
+use Rattle.call.specs.Charging.{isPresent}
+use Rattle.call.specs.Relationship.{modeOf}
+use Rattle.call.specs.Record.{armedAs}
+
+-- the n entries that the bytes are
+unfoldable pub entriesOf : ℕ → List ℕ → List Entry
+entriesOf zero t = []
+entriesOf (suc n) t = entryOf t ∷ entriesOf n (drop 5 t)
+
+abbrev pub named : Entry → Named
+named e = roleOf (e .leg) (e .point)
+
+-- ---- 11: "entry with unknown leg and point, bad mode or timer, or a pair named twice"
+
+-- "Modes: 0 interrupted, 1 notify and continue, 2 transparent (disarms). Point 50 never takes mode 0."
+abbrev pub isModeFor : Role → ℕ → Bool
+isModeFor p m = leb m 2 && not (isRole p Moved && eqb m 0)
+
+-- "Timer is 0 (none) except for point 6 with mode 0 or 1, where it is 0..2047"
+abbrev pub isTimerFor : Role → ℕ → Seconds → Bool
+isTimerFor p m t = isTimer t && (eqb (t .0) 0 || (isRole p NoAnswer && leb m 1))
+
+-- `seen` says of each role whether an entry before has named it
+abbrev pub isGood : Named → List Bool → Entry → Bool
+isGood Unknown seen e = false
+isGood (Known p) seen e = isModeFor p (e .mode) && isTimerFor p (e .mode) (e .timer) && not (getD seen (placeOf p) false)
+
+abbrev pub seenAfter : Named → List Bool → List Bool
+seenAfter Unknown seen = seen
+seenAfter (Known p) seen = set seen (placeOf p) true
+
+unfoldable pub areGood : List Bool → List Entry → Bool
+areGood seen [] = true
+areGood seen (e ∷ es) = isGood (named e) seen e && areGood (seenAfter (named e) seen) es
+
+abbrev pub noneSeen : List Bool
+noneSeen = replicate 10 false
+
+-- ---- 12: "Modes 0 and 1 need a point that can still occur"
+
+-- "none once leg 1 is absent; with leg 2 absent, any (a Connect may follow); else 4 and 19 in analysing, …"
+abbrev pub canOccur : Record → Role → Bool
+canOccur r p = isPresent (r .leg1 .presence) && (not (isPresent (r .leg2 .presence)) || occursFrom p (r .stage))
+
+abbrev pub isPossible : Record → Named → ℕ → Bool
+isPossible r Unknown m = true
+isPossible r (Known p) m = not (leb m 1) || canOccur r p
+
+unfoldable pub arePossible : Record → List Entry → Bool
+arePossible r [] = true
+arePossible r (e ∷ es) = isPossible r (named e) (e .mode) && arePossible r es
+
+-- ---- the record after
+
+-- "a nonzero one is kept, 0 changes nothing kept"
+abbrev pub keptAfter : Seconds → Seconds → Seconds
+keptAfter timer kept = cond (eqb (timer .0) 0) kept timer
+
+-- "each overwrites its point"
+abbrev pub armedBy : Record → Named → Entry → Record
+armedBy r Unknown e = r
+armedBy r (Known p) e = armedAs r (set (r .armings) (placeOf p) (record { mode = modeOf (e .mode) })) (keptAfter (e .timer) (r .kept))
+
+unfoldable pub armedWith : Record → List Entry → Record
+armedWith r [] = r
+armedWith r (e ∷ es) = armedWith (armedBy r (named e) e) es

@@ -1,0 +1,59 @@
+-- Document 01, Charging: a leg's pending charge (call period duration), its clock (Tcp) and its report (ApplyChargingReport). Both legs have the same rules.
+use Prim.Native.Nat.{_+_, _-_, min}
+use mathlib.Core.Bool.{Bool, true, false, cond}
+use lib.Dec.{ltb}
+use Rattle.forms.specs.declared.units.Tenths.{Tenths}
+use Rattle.call.specs.declared.record.Presence.{Presence}
+use Rattle.call.specs.declared.record.Presence.the-variants.{Absent, Present}
+use Rattle.call.specs.declared.record.Charge.{Charge}
+use Rattle.call.specs.declared.record.Charge.the-variants as charge
+use Rattle.call.specs.declared.record.LegState.{LegState}
+use Rattle.call.specs.declared.record.Stage.{Stage}
+use Rattle.call.specs.declared.answers.ChargeReport.{ChargeReport}
+use Rattle.call.specs.declared.answers.ChargeReport.the-variants as report
+use Rattle.call.specs.Points.{isActive}
+
+-- ---- a leg: absent or present, and its pending charge
+
+abbrev pub leg : Presence → Charge → LegState
+leg presence charge = record { presence = presence; charge = charge }
+
+abbrev pub isPresent : Presence → Bool
+isPresent Absent = false
+isPresent Present = true
+
+-- "one pending charge per leg": none; waiting for the Answer, with its period; running, with its period and its start
+abbrev pub isPending : Charge → Bool
+isPending charge.None = false
+isPending (charge.Waiting period) = true
+isPending (charge.Running period start) = true
+
+-- ---- the clock
+
+-- "its clock starts at the first Answer after it was accepted, … and never restarts"
+abbrev pub answered : Tenths → Charge → Charge
+answered t charge.None = charge.None
+answered t (charge.Waiting period) = charge.Running period t
+answered t (charge.Running period start) = charge.Running period start
+
+-- "or at once when active": the charge that is accepted at t
+abbrev pub granted : Stage → Tenths → Tenths → Charge
+granted s period t = cond (isActive s) (charge.Running period t) (charge.Waiting period)
+
+abbrev pub isStarted : Charge → Bool
+isStarted charge.None = false
+isStarted (charge.Waiting period) = false
+isStarted (charge.Running period start) = true
+
+-- "before start + period"
+abbrev pub isBeforeEnd : Charge → Tenths → Bool
+isBeforeEnd charge.None t = false
+isBeforeEnd (charge.Waiting period) t = false
+isBeforeEnd (charge.Running period start) t = ltb (t .0) (start .0 + period .0)
+
+-- ---- the report of a charge that is removed: "Elapsed = smaller of (time − start) and period, 0 if not started."
+
+abbrev pub reportOf : Tenths → Charge → ChargeReport
+reportOf t charge.None = report.None
+reportOf t (charge.Waiting period) = report.Elapsed (record { 0 = 0 })
+reportOf t (charge.Running period start) = report.Elapsed (record { 0 = min (t .0 - start .0) (period .0) })

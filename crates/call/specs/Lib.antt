@@ -1,0 +1,13 @@
+pub mod Points
+pub mod Charging
+pub mod Relationship
+pub mod Record
+pub mod Answers
+pub mod Trigger
+pub mod Arming
+pub mod Events
+pub mod Operations
+pub mod Range
+pub mod Refusals
+pub mod Step
+pub mod Alone

@@ -1,0 +1,51 @@
+-- Document 01, The call table: what is in range of a record (the record's part of refusal 3).
+use Prim.Native.Nat.{ℕ, zero, suc}
+use mathlib.Core.Bool.{Bool, true, false, not, _&&_}
+use mathlib.Core.List.{List, [], _∷_}
+use lib.Dec.{leb, ltb, eqb}
+use Rattle.forms.specs.Bytes.{within}
+use Rattle.forms.specs.Fields.{nature, digitCount, isDigit}
+use Rattle.forms.specs.Units.{clockEnd, isPeriod, isTimer}
+use Rattle.forms.specs.declared.units.Tenths.{Tenths}
+use Rattle.call.specs.declared.points.Role.the-variants.{Moved}
+use Rattle.call.specs.declared.record.Charge.{Charge}
+use Rattle.call.specs.declared.record.Charge.the-variants as charge
+use Rattle.call.specs.declared.record.Mode.the-variants as mode
+use Rattle.call.specs.declared.record.Hold.{Hold}
+use Rattle.call.specs.declared.record.Hold.the-variants as hold
+use Rattle.call.specs.declared.record.Number.{Number}
+use Rattle.call.specs.declared.record.Record.{Record}
+use Rattle.call.specs.Points.{isRole, modeAt}
+use Rattle.call.specs.Relationship.{isMode}
+
+-- "times below 2^48"
+abbrev pub timeInRange : Tenths → Bool
+timeInRange t = ltb (t .0) clockEnd
+
+-- a period "as in Forms"; no "start later than last time"
+abbrev pub chargeInRange : Charge → Tenths → Bool
+chargeInRange charge.None last = true
+chargeInRange (charge.Waiting period) last = isPeriod period
+chargeInRange (charge.Running period start) last = isPeriod period && leb (start .0) (last .0)
+
+-- "hold none, 2 or an armable point with its leg, 50 excepted"
+abbrev pub holdInRange : Hold → Bool
+holdInRange hold.None = true
+holdInRange hold.Trigger = true
+holdInRange (hold.At p) = not (isRole p Moved)
+
+-- "digit places past the called number's count zero"
+unfoldable pub placesInRange : ℕ → List ℕ → Bool
+placesInRange count [] = true
+placesInRange zero (d ∷ ds) = eqb d 0 && placesInRange zero ds
+placesInRange (suc count) (d ∷ ds) = isDigit d && placesInRange count ds
+
+unfoldable pub numberInRange : Number → Bool
+numberInRange n = nature (n .nature) .inRange && digitCount (n .count) .inRange && placesInRange (n .count) (n .digits)
+
+-- "kept timer 0..2047; an arming none, 0 or 1 (50 never 0)"; "all else as in Forms"
+unfoldable pub recordInRange : Record → Bool
+recordInRange r =
+    chargeInRange (r .leg1 .charge) (r .last) && chargeInRange (r .leg2 .charge) (r .last) && holdInRange (r .hold)
+    && timeInRange (r .last) && not (isMode (modeAt Moved (r .armings)) mode.Interrupted) && isTimer (r .kept)
+    && within 10 180 (r .timer .0) && numberInRange (r .number)

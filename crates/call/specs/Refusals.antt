@@ -1,0 +1,93 @@
+-- Document 01, Numbered refusals: those that one call gives. First each row in the words of the table, then which rows each kind of item meets, in their order.
+use Prim.Native.Nat.{ℕ}
+use mathlib.Core.Bool.{Bool, true, not, _&&_}
+use mathlib.Core.List.{List, [], _∷_}
+use lib.Dec.{ltb}
+use Rattle.forms.specs.Item.{itemInRange}
+use Rattle.forms.specs.Profile.{profileOf, isProfile}
+use Rattle.forms.specs.declared.item.Leg.{Leg}
+use Rattle.forms.specs.declared.item.Item.{Item}
+use Rattle.forms.specs.declared.item.Entry.{Entry}
+use Rattle.forms.specs.declared.units.Tenths.{Tenths}
+use Rattle.call.specs.declared.points.Role.{Role}
+use Rattle.call.specs.declared.record.Record.{Record}
+use Rattle.call.specs.declared.step.Kind.{Kind}
+use Rattle.call.specs.declared.step.Kind.the-variants as kind
+use Rattle.call.specs.Charging.{isPresent, isPending, isStarted, isBeforeEnd}
+use Rattle.call.specs.Relationship.{isHeld, relationshipOf, isControl, isRelated}
+use Rattle.call.specs.Record.{legAt}
+use Rattle.call.specs.Answers.{Row, row}
+use Rattle.call.specs.Arming.{entriesOf, areGood, noneSeen, arePossible}
+use Rattle.call.specs.Events.{isClearOf1, canMeet}
+use Rattle.call.specs.Operations.{canConnect}
+use Rattle.call.specs.Range.{timeInRange, recordInRange}
+
+-- "item malformed": a value out of range; of the time alone
+abbrev pub row1 : Item → List ℕ → Row
+row1 i rest = row 1 (not (itemInRange i rest))
+
+abbrev pub row1Time : Tenths → Row
+row1Time t = row 1 (not (timeInRange t))
+
+-- "profile malformed (Setup)"
+abbrev pub row2 : List ℕ → Row
+row2 s = row 2 (not (isProfile (profileOf s) s))
+
+-- "a field out of range, … start later than last time": the record's part
+abbrev pub row3 : Record → Row
+row3 r = row 3 (not (recordInRange r))
+
+-- "call not open (all but Setup)", "call already open (Setup)"
+abbrev pub row4 : Row
+row4 = row 4 true
+
+abbrev pub row5 : Row
+row5 = row 5 true
+
+-- "time before the call's last"
+abbrev pub row7 : Record → Tenths → Row
+row7 r t = row 7 (ltb (t .0) (r .last .0))
+
+-- "operation without control; for 25 and 26, without any relationship"
+abbrev pub row8 : Record → Row
+row8 r = row 8 (not (isControl (relationshipOf r)))
+
+abbrev pub row8Any : Record → Row
+row8Any r = row 8 (not (isRelated (relationshipOf r)))
+
+-- "event while held, but for Clear of leg 1"
+abbrev pub row9 : Record → Role → Row
+row9 r p = row 9 (isHeld (r .hold) && not (isClearOf1 p))
+
+-- "Continue or Connect, not held"
+abbrev pub row10 : Record → Row
+row10 r = row 10 (not (isHeld (r .hold)))
+
+-- "entry with unknown leg and point, bad mode or timer, or a pair named twice"
+abbrev pub row11 : List Entry → Row
+row11 es = row 11 (not (areGood noneSeen es))
+
+-- "not possible at this stage or with these legs": an event, an arming, a Connect; "Period over with no started charge"; "Apply charging with its leg or leg 1 absent"
+abbrev pub row12 : Bool → Row
+row12 possible = row 12 (not possible)
+
+-- "charge already pending on that leg"
+abbrev pub row13 : Record → Leg → Row
+row13 r l = row 13 (isPending (legAt l r .charge))
+
+-- "Period over before start + period"
+abbrev pub row14 : Record → Leg → Tenths → Row
+row14 r l t = row 14 (isBeforeEnd (legAt l r .charge) t)
+
+-- the rows that an item meets which asks k of an open call at t; its entries stand in `rest`
+abbrev pub rowsOf : Record → Kind → Tenths → List ℕ → List Row
+rowsOf r (kind.Setup nature service forwarded count) t rest = row5 ∷ []
+rowsOf r (kind.Event p) t rest = row7 r t ∷ row9 r p ∷ row12 (canMeet r p) ∷ []
+rowsOf r (kind.PeriodOver l) t rest = row7 r t ∷ row12 (isStarted (legAt l r .charge)) ∷ row14 r l t ∷ []
+rowsOf r (kind.RequestReport n) t rest = row7 r t ∷ row8 r ∷ row11 (entriesOf n rest) ∷ row12 (arePossible r (entriesOf n rest)) ∷ []
+rowsOf r kind.Continue t rest = row7 r t ∷ row8 r ∷ row10 r ∷ []
+rowsOf r (kind.Connect nature count) t rest = row7 r t ∷ row8 r ∷ row10 r ∷ row12 (canConnect r) ∷ []
+rowsOf r kind.Release t rest = row7 r t ∷ row8 r ∷ []
+rowsOf r (kind.ApplyCharging l period) t rest = row7 r t ∷ row8 r ∷ row12 (isPresent (r .leg1 .presence) && isPresent (legAt l r .presence)) ∷ row13 r l ∷ []
+rowsOf r kind.ActivityTest t rest = row7 r t ∷ row8Any r ∷ []
+rowsOf r kind.Abort t rest = row7 r t ∷ row8Any r ∷ []

@@ -1,0 +1,29 @@
+-- Document 01, Triggering (004, triggering criteria of the O-CSI at Collected_Info).
+use Prim.Native.Nat.{ℕ}
+use mathlib.Core.Bool.{Bool, true, false, not, _&&_, _||_}
+use mathlib.Core.List.{List}
+use lib.Dec.{eqb}
+use lib.ListN.{length}
+use Rattle.forms.specs.Bytes.{contains}
+use Rattle.forms.specs.Profile.{Profile, someMatches}
+use Rattle.forms.specs.declared.profile.Criterion.{Criterion}
+use Rattle.forms.specs.declared.profile.Criterion.the-variants.{Absent, Enabling, Inhibiting}
+
+-- a criterion that is present: enabling wants what it asks for, inhibiting wants it not to be
+abbrev pub holds : Criterion → Bool → Bool
+holds Absent b = true
+holds Enabling b = b
+holds Inhibiting b = not b
+
+-- "Enabling: some number or some length matches. Inhibiting: no number and no length matches." A length matches if the dialled number has it
+abbrev pub numberHolds : Profile → ℕ → List ℕ → Bool
+numberHolds p nature dialled = holds (p .sense) (someMatches (p .numbers) nature dialled || contains (length dialled) (p .lengths))
+
+-- "Service: list empty, or the call's service is in it."
+abbrev pub serviceHolds : List ℕ → ℕ → Bool
+serviceHolds services service = eqb (length services) 0 || contains service services
+
+-- "Forwarding: enabling wants a forwarded call, inhibiting one that isn't. All present criteria must hold."
+unfoldable pub triggers : Profile → ℕ → ℕ → Bool → List ℕ → Bool
+triggers p nature service forwarded dialled =
+    numberHolds p nature dialled && serviceHolds (p .services) service && holds (p .forwarding) forwarded

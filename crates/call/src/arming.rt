@@ -1,0 +1,155 @@
+// Request report: all entries or none (document 01, One call and refusals 11 and 12).
+ghost use mathlib.Core.Path.{_≡_};
+ghost use mathlib.Core.Bool.{not};
+ghost use mathlib.Core.List.{[], _∷_};
+ghost use Rattle.call.specs.Answers.{firstOf};
+ghost use Rattle.call.specs.Refusals.{row11, row12};
+ghost use Rattle.call.specs.Arming.{entriesOf, named, isModeFor, isTimerFor, isGood, seenAfter, areGood, noneSeen, canOccur, isPossible, arePossible, keptAfter, armedBy, armedWith};
+use crate::answers::Check;
+use crate::charging;
+use crate::points;
+use crate::points::Named;
+use crate::points::Role;
+use crate::record::Arming;
+use crate::record::Record;
+use crate::relationship;
+use forms::item;
+use forms::item::Entry;
+use forms::units::Seconds;
+
+fn name_of(e: Entry) -> Named
+    ensures { λ r. ⌜ r ≡ named e ⌝ }
+{
+    points::role_of(e.leg, e.point)
+}
+
+fn is_mode_for(p: Role, m: u8) -> bool
+    ensures { λ r. ⌜ r ≡ isModeFor p m ⌝ }
+{
+    (m <= 2) & !(points::is_role(p, Role::Moved) & (m == 0))
+}
+
+fn is_timer_for(p: Role, m: u8, t: Seconds) -> bool
+    ensures { λ r. ⌜ r ≡ isTimerFor p m t ⌝ }
+{
+    (t.0 <= Seconds::LONGEST_TIMER.0)
+        & ((t.0 == 0) | (points::is_role(p, Role::NoAnswer) & (m <= 1)))
+}
+
+// Refusal 11, of one entry: the roles that entries before it have named are `seen`.
+fn is_good(x: Named, seen: [bool; 10], e: Entry) -> bool
+    ensures { λ r. ⌜ r ≡ isGood x seen e ⌝ }
+{
+    let mode = e.mode;
+    let timer = e.timer;
+    match x {
+        Named::Unknown => false,
+        Named::Known(p) => {
+            let i = points::place_of(p);
+            let again = seen[i];
+            is_mode_for(p, mode) & is_timer_for(p, mode, timer) & !again
+        }
+    }
+}
+
+fn see(x: Named, seen: [bool; 10]) -> [bool; 10]
+    ensures { λ r. ⌜ r ≡ seenAfter x seen ⌝ }
+{
+    let mut s = seen;
+    match x {
+        Named::Unknown => s,
+        Named::Known(p) => {
+            let i = points::place_of(p);
+            s[i] = true;
+            s
+        }
+    }
+}
+
+fn can_occur(r: Record, p: Role) -> bool
+    ensures { λ b. ⌜ b ≡ canOccur r p ⌝ }
+{
+    let s = r.stage;
+    let leg1 = r.leg1;
+    let leg2 = r.leg2;
+    let p1 = leg1.presence;
+    let p2 = leg2.presence;
+    charging::is_present(p1) & (!charging::is_present(p2) | points::occurs_from(p, s))
+}
+
+// Refusal 12, of one entry.
+fn is_possible(r: Record, x: Named, m: u8) -> bool
+    ensures { λ b. ⌜ b ≡ isPossible r x m ⌝ }
+{
+    match x {
+        Named::Unknown => true,
+        Named::Known(p) => !(m <= 1) | can_occur(r, p),
+    }
+}
+
+// Refusals 11 and 12: every entry is tested for 11 before any for 12.
+pub(crate) fn entries_refusal(r: Record, n: u8, t: &[u8]) -> Check
+    ensures { λ c. ⌜ c ≡ firstOf (row11 (entriesOf n (now (t .entry))) ∷ row12 (arePossible r (entriesOf n (now (t .entry)))) ∷ []) ⌝ }
+{
+    let mut seen = [false; 10];
+    let mut possible = true;
+    let mut i: u8 = 0;
+    while i < n {
+        let e = item::nth_entry(t, i);
+        let x = name_of(e);
+        if is_good(x, seen, e) {
+            let more = see(x, seen);
+            seen = more;
+            possible = possible & is_possible(r, x, e.mode);
+            i += 1;
+        } else {
+            return Check::Fail(11);
+        }
+    }
+    if possible {
+        Check::Pass
+    } else {
+        Check::Fail(12)
+    }
+}
+
+fn kept_after(timer: Seconds, kept: Seconds) -> Seconds
+    ensures { λ r. ⌜ r ≡ keptAfter timer kept ⌝ }
+{
+    if timer.0 == 0 { kept } else { timer }
+}
+
+// One entry overwrites its point.
+fn arm(r: Record, x: Named, e: Entry) -> Record
+    ensures { λ s. ⌜ s ≡ armedBy r x e ⌝ }
+{
+    let mode = e.mode;
+    let timer = e.timer;
+    let kept = r.kept;
+    match x {
+        Named::Unknown => r,
+        Named::Known(p) => {
+            let i = points::place_of(p);
+            let m = relationship::mode_of(mode);
+            let a = Arming { mode: m };
+            let mut s = r;
+            s.armings[i] = a;
+            s.kept = kept_after(timer, kept);
+            s
+        }
+    }
+}
+
+// All entries, one after the other.
+pub(crate) fn arm_all(r: Record, n: u8, t: &[u8]) -> Record
+    ensures { λ s. ⌜ s ≡ armedWith r (entriesOf n (now (t .entry))) ⌝ }
+{
+    let mut s = r;
+    let mut i: u8 = 0;
+    while i < n {
+        let e = item::nth_entry(t, i);
+        s = arm(s, name_of(e), e);
+        i += 1;
+    }
+    s
+}

@@ -1,0 +1,112 @@
+// A leg's pending charge, its clock and its report (document 01, Charging).
+ghost use mathlib.Core.Path.{_≡_};
+ghost use Prim.Native.Nat.{_+_, _-_, min};
+ghost use lib.Dec.{ltb};
+ghost use Rattle.call.specs.Charging.{leg, isPresent, isPending, answered, granted, isStarted, isBeforeEnd, reportOf};
+use crate::answers::ChargeReport;
+use crate::points;
+use crate::record::Charge;
+use crate::record::LegState;
+use crate::record::Presence;
+use crate::record::Stage;
+use forms::units::Tenths;
+
+pub(crate) fn leg_of(presence: Presence, charge: Charge) -> LegState
+    ensures { λ l. ⌜ l ≡ leg presence charge ⌝ }
+{
+    LegState { presence, charge }
+}
+
+pub(crate) fn is_present(p: Presence) -> bool
+    ensures { λ r. ⌜ r ≡ isPresent p ⌝ }
+{
+    match p {
+        Presence::Absent => false,
+        Presence::Present => true,
+    }
+}
+
+pub(crate) fn is_pending(c: Charge) -> bool
+    ensures { λ r. ⌜ r ≡ isPending c ⌝ }
+{
+    match c {
+        Charge::None => false,
+        Charge::Waiting(_) => true,
+        Charge::Running(_, _) => true,
+    }
+}
+
+// An Answer starts a clock that waits.
+pub(crate) fn answer(t: Tenths, c: Charge) -> Charge
+    ensures { λ r. ⌜ r ≡ answered t c ⌝ }
+{
+    match c {
+        Charge::None => Charge::None,
+        Charge::Waiting(period) => Charge::Running(period, t),
+        Charge::Running(period, start) => Charge::Running(period, start),
+    }
+}
+
+// The charge that is accepted at a stage.
+pub(crate) fn grant(s: Stage, period: Tenths, t: Tenths) -> Charge
+    ensures { λ r. ⌜ r ≡ granted s period t ⌝ }
+{
+    if points::is_active(s) {
+        Charge::Running(period, t)
+    } else {
+        Charge::Waiting(period)
+    }
+}
+
+pub(crate) fn is_started(c: Charge) -> bool
+    ensures { λ r. ⌜ r ≡ isStarted c ⌝ }
+{
+    match c {
+        Charge::None => false,
+        Charge::Waiting(_) => false,
+        Charge::Running(_, _) => true,
+    }
+}
+
+// Before start + period. The sum is not taken: it need not fit.
+fn is_before(t: Tenths, start: Tenths, period: Tenths) -> bool
+    ensures { λ r. ⌜ r ≡ ltb (t .0) (start .0 + period .0) ⌝ }
+{
+    if start.0 <= t.0 {
+        t.0 - start.0 < period.0
+    } else {
+        true
+    }
+}
+
+pub(crate) fn is_before_end(c: Charge, t: Tenths) -> bool
+    ensures { λ r. ⌜ r ≡ isBeforeEnd c t ⌝ }
+{
+    match c {
+        Charge::None => false,
+        Charge::Waiting(_) => false,
+        Charge::Running(period, start) => is_before(t, start, period),
+    }
+}
+
+// The smaller of the time since the start and the period.
+fn elapsed(t: Tenths, start: Tenths, period: Tenths) -> Tenths
+    ensures { λ r. ⌜ r ≡ record { 0 = min (t .0 - start .0) (period .0) } ⌝ }
+{
+    if t.0 <= start.0 {
+        return Tenths(0);
+    }
+    let d = t.0 - start.0;
+    if d <= period.0 { Tenths(d) } else { period }
+}
+
+// The report of a charge that is removed.
+pub(crate) fn report_of(t: Tenths, c: Charge) -> ChargeReport
+    ensures { λ r. ⌜ r ≡ reportOf t c ⌝ }
+{
+    match c {
+        Charge::None => ChargeReport::None,
+        Charge::Waiting(_) => ChargeReport::Elapsed(Tenths(0)),
+        Charge::Running(period, start) => ChargeReport::Elapsed(elapsed(t, start, period)),
+    }
+}

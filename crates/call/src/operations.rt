@@ -1,0 +1,197 @@
+// What Period over and the operations do, Request report apart (document 01, One call and Charging).
+ghost use mathlib.Core.Path.{_≡_};
+ghost use mathlib.Core.Bool.{_&&_};
+ghost use Prim.Native.Nat.{_<_};
+ghost use Rattle.forms.specs.Units.{clockEnd};
+ghost use Rattle.call.specs.Charging.{isPresent};
+ghost use Rattle.call.specs.Operations.{after, routeTimer, routed, resumed, continued, canConnect, connected, uncharged, dropped, isRelease, aborted, charged, reportOn, periodOver, chargeApplied};
+use crate::answers;
+use crate::answers::ChargeReport;
+use crate::answers::Deadline;
+use crate::answers::Report;
+use crate::answers::Reports;
+use crate::answers::Stepped;
+use crate::charging;
+use crate::record;
+use crate::record::Charge;
+use crate::record::Hold;
+use crate::record::LegState;
+use crate::record::Number;
+use crate::record::Presence;
+use crate::record::Record;
+use crate::record::Stage;
+use crate::relationship;
+use forms::item::Leg;
+use forms::profile::Handling;
+use forms::units::Seconds;
+use forms::units::Tenths;
+
+pub(crate) fn deadline_after(t: Tenths, s: Seconds) -> Deadline
+    requires { ⌜ t .0 < clockEnd ⌝ }
+    ensures { λ d. ⌜ d ≡ after t s ⌝ }
+{
+    let x = s.tenths();
+    Deadline::At(Tenths(t.0 + x.0))
+}
+
+fn route_timer(r: Record) -> Seconds
+    ensures { λ s. ⌜ s ≡ routeTimer r ⌝ }
+{
+    let kept = r.kept;
+    let timer = r.timer;
+    if kept.0 == 0 { timer } else { kept }
+}
+
+// Routing starts: the kept timer is used up.
+pub(crate) fn route(r: Record, t: Tenths) -> Stepped
+    requires { ⌜ t .0 < clockEnd ⌝ }
+    ensures { λ s. ⌜ s ≡ routed r t ⌝ }
+{
+    let deadline = deadline_after(t, route_timer(r));
+    let none = Seconds(0);
+    let mut next = r;
+    next.kept = none;
+    let silent = answers::reports_of(Report::None, ChargeReport::None, ChargeReport::None);
+    answers::go_on(next, silent, deadline)
+}
+
+fn resume(r: Record, t: Tenths) -> Record
+    ensures { λ s. ⌜ s ≡ resumed r t ⌝ }
+{
+    let stage = r.stage;
+    record::place(record::with_last(r, t), stage, Hold::None)
+}
+
+fn has_both_legs(r: Record) -> bool
+    ensures { λ b. ⌜ b ≡ (isPresent (r .leg1 .presence) && isPresent (r .leg2 .presence)) ⌝ }
+{
+    let leg1 = r.leg1;
+    let leg2 = r.leg2;
+    let p1 = leg1.presence;
+    let p2 = leg2.presence;
+    charging::is_present(p1) & charging::is_present(p2)
+}
+
+// Continue, from a hold.
+pub(crate) fn continue_on(r: Record, t: Tenths) -> Stepped
+    requires { ⌜ t .0 < clockEnd ⌝ }
+    ensures { λ s. ⌜ s ≡ continued r t ⌝ }
+{
+    let h = r.hold;
+    if has_both_legs(r) {
+        let next = resume(r, t);
+        if relationship::is_trigger(h) {
+            return route(next, t);
+        }
+        return answers::go_on_quietly(next);
+    }
+    answers::end(r, Report::None, t)
+}
+
+pub(crate) fn can_connect(r: Record) -> bool
+    ensures { λ b. ⌜ b ≡ canConnect r ⌝ }
+{
+    let h = r.hold;
+    let leg1 = r.leg1;
+    let leg2 = r.leg2;
+    let p1 = leg1.presence;
+    let p2 = leg2.presence;
+    relationship::is_trigger(h) | (charging::is_present(p1) & !charging::is_present(p2))
+}
+
+pub(crate) fn connect(r: Record, number: Number, t: Tenths) -> Record
+    ensures { λ s. ⌜ s ≡ connected r number t ⌝ }
+{
+    let l = r.leg2;
+    let c = l.charge;
+    let leg2 = charging::leg_of(Presence::Present, c);
+    let mut s = record::place(record::with_last(r, t), Stage::Analysing, Hold::None);
+    s.leg2 = leg2;
+    s.number = number;
+    s
+}
+
+fn without_charge(l: LegState) -> LegState
+    ensures { λ r. ⌜ r ≡ uncharged l ⌝ }
+{
+    let presence = l.presence;
+    charging::leg_of(presence, Charge::None)
+}
+
+// All armings, charges and the kept timer are dropped.
+fn drop_all(r: Record) -> Record
+    ensures { λ s. ⌜ s ≡ dropped r ⌝ }
+{
+    let l1 = r.leg1;
+    let l2 = r.leg2;
+    let leg1 = without_charge(l1);
+    let leg2 = without_charge(l2);
+    let armings = record::no_armings();
+    let none = Seconds(0);
+    let mut s = r;
+    s.leg1 = leg1;
+    s.leg2 = leg2;
+    s.armings = armings;
+    s.kept = none;
+    s
+}
+
+fn is_release(h: Handling) -> bool
+    ensures { λ b. ⌜ b ≡ isRelease h ⌝ }
+{
+    match h {
+        Handling::Continue => false,
+        Handling::Release => true,
+    }
+}
+
+pub(crate) fn abort(r: Record, t: Tenths) -> Stepped
+    requires { ⌜ t .0 < clockEnd ⌝ }
+    ensures { λ s. ⌜ s ≡ aborted r t ⌝ }
+{
+    let handling = r.handling;
+    let h = r.hold;
+    let d = drop_all(r);
+    if is_release(handling) {
+        return answers::end(d, Report::None, t);
+    }
+    if relationship::is_held(h) {
+        return continue_on(d, t);
+    }
+    answers::go_on_quietly(record::with_last(d, t))
+}
+
+// The charge of a leg is replaced.
+fn charge(r: Record, leg: Leg, c: Charge, t: Tenths) -> Record
+    ensures { λ s. ⌜ s ≡ charged r leg c t ⌝ }
+{
+    let l = record::leg_at(leg, r);
+    let presence = l.presence;
+    record::with_leg(leg, record::with_last(r, t), charging::leg_of(presence, c))
+}
+
+fn report_on(leg: Leg, c: ChargeReport) -> Reports
+    ensures { λ r. ⌜ r ≡ reportOn leg c ⌝ }
+{
+    match leg {
+        Leg::One => answers::reports_of(Report::None, c, ChargeReport::None),
+        Leg::Two => answers::reports_of(Report::None, ChargeReport::None, c),
+    }
+}
+
+pub(crate) fn period_over(r: Record, leg: Leg, t: Tenths) -> Stepped
+    ensures { λ s. ⌜ s ≡ periodOver r leg t ⌝ }
+{
+    let l = record::leg_at(leg, r);
+    let c = l.charge;
+    let reports = report_on(leg, charging::report_of(t, c));
+    answers::go_on(charge(r, leg, Charge::None, t), reports, Deadline::None)
+}
+
+pub(crate) fn apply_charging(r: Record, leg: Leg, period: Tenths, t: Tenths) -> Stepped
+    ensures { λ s. ⌜ s ≡ chargeApplied r leg period t ⌝ }
+{
+    let stage = r.stage;
+    let c = charging::grant(stage, period, t);
+    answers::go_on_quietly(charge(r, leg, c, t))
+}
