@@ -1,6 +1,6 @@
 -- Document 01, A call by itself: "It is fed one call's items in their order, each Setup with its profile, and nothing else. It keeps a record with One call's fields, or nothing; at first nothing."
 use Prim.Native.Nat.{ℕ}
-use mathlib.Core.Bool.{Bool, cond}
+use mathlib.Core.Bool.{cond}
 use mathlib.Core.List.{List, [], _∷_}
 use mathlib.Core.Option.{Option, none, some}
 use lib.ListN.{drop}
@@ -14,7 +14,8 @@ use Rattle.call.specs.declared.answers.Answer.the-variants.{Accepted, Re
 use Rattle.call.specs.declared.answers.Stepped.{Stepped}
 use Rattle.call.specs.Answers.{firstOf, refused, guarded}
 use Rattle.call.specs.Refusals.{row2, row5}
-use Rattle.call.specs.Step.{isSetup, respondOf, openOf}
+use Rattle.call.specs.Step.{isSetup, respondOf}
+use Rattle.call.specs.Setup.{openOf}
 
 -- "or nothing when the call is over. A refusal leaves what is kept."
 abbrev pub keptAfter : Option Record → Answer → Record → Option Record

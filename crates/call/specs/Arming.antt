@@ -8,15 +8,18 @@ use Rattle.forms.specs.Item.{entryOf}
 use Rattle.forms.specs.Units.{isTimer}
 use Rattle.forms.specs.declared.item.Entry.{Entry}
 use Rattle.forms.specs.declared.units.Seconds.{Seconds}
+use Rattle.forms.specs.declared.units.Tenths.{Tenths}
 use Rattle.call.specs.declared.points.Role.{Role}
 use Rattle.call.specs.declared.points.Role.the-variants.{Moved, NoAnswer}
 use Rattle.call.specs.declared.points.Named.{Named}
 use Rattle.call.specs.declared.points.Named.the-variants.{Unknown, Known}
 use Rattle.call.specs.declared.record.Record.{Record}
+use Rattle.call.specs.declared.answers.Stepped.{Stepped}
 use Rattle.call.specs.Points.{placeOf, isRole, roleOf, occursFrom}
 use Rattle.call.specs.Charging.{isPresent}
 use Rattle.call.specs.Relationship.{modeOf}
-use Rattle.call.specs.Record.{armedAs}
+use Rattle.call.specs.Record.{timed, armedAs}
+use Rattle.call.specs.Answers.{quietly}
 
 -- the n entries that the bytes are
 unfoldable pub entriesOf : ℕ → List ℕ → List Entry
@@ -80,3 +83,6 @@ armedBy r (Known p) e = armedAs r (set (r .armings) (placeOf p) (record { mode =
 unfoldable pub armedWith : Record → List Entry → Record
 armedWith r [] = r
 armedWith r (e ∷ es) = armedWith (armedBy r (named e) e) es
+
+abbrev pub requestReport : Record → ℕ → List ℕ → Tenths → Stepped
+requestReport r n entries t = quietly (armedWith (timed r t) (entriesOf n entries))

@@ -1,5 +1,5 @@
 -- Document 01, One call: an event meets a role; what is reported, disarmed and held, and whether the call is over.
-use mathlib.Core.Bool.{Bool, true, false, not, cond, _&&_, _||_}
+use mathlib.Core.Bool.{Bool, false, cond, _&&_, _||_}
 use Rattle.forms.specs.declared.item.Leg.{Leg}
 use Rattle.forms.specs.declared.item.Leg.the-variants.{One, Two}
 use Rattle.forms.specs.declared.units.Tenths.{Tenths}

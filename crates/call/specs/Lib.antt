@@ -10,4 +10,5 @@ pub mod Operations
 pub mod Range
 pub mod Refusals
 pub mod Step
+pub mod Setup
 pub mod Alone

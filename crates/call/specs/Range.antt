@@ -1,6 +1,6 @@
 -- Document 01, The call table: what is in range of a record (the record's part of refusal 3).
 use Prim.Native.Nat.{ℕ, zero, suc}
-use mathlib.Core.Bool.{Bool, true, false, not, _&&_}
+use mathlib.Core.Bool.{Bool, true, not, _&&_}
 use mathlib.Core.List.{List, [], _∷_}
 use lib.Dec.{leb, ltb, eqb}
 use Rattle.forms.specs.Bytes.{within}

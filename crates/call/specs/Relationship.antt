@@ -3,7 +3,6 @@ use Prim.Native.Nat.{ℕ}
 use mathlib.Core.Bool.{Bool, true, false, cond, _||_}
 use mathlib.Core.List.{List, [], _∷_}
 use lib.Dec.{eqb}
-use Rattle.call.specs.declared.points.Role.{Role}
 use Rattle.call.specs.declared.record.Mode.{Mode}
 use Rattle.call.specs.declared.record.Mode.the-variants as mode
 use Rattle.call.specs.declared.record.Arming.{Arming}

@@ -1,12 +1,11 @@
 // Answers: what an item is told, and the record that remains (document 01, A call by itself).
 ghost use mathlib.Core.Path.{_≡_};
 ghost use mathlib.Core.Bool.{cond};
-ghost use Rattle.call.specs.Answers.{reports, silent, goesOn, quietly, ended, refused, guarded};
+ghost use Rattle.call.specs.Answers.{silent, goesOn, quietly, ended, refused};
 use crate::charging;
 use crate::points::Role;
 use crate::record;
-use crate::record::Hold;
-use crate::record::Record;
+use crate::record::*;
 use crate::relationship;
 use forms::units::Tenths;
 
@@ -75,13 +74,13 @@ pub(crate) fn refuse_if(applies: bool, n: u8, then: Check) -> Check
     if applies { Check::Fail(n) } else { then }
 }
 
-pub(crate) fn reports_of(event: Report, charge1: ChargeReport, charge2: ChargeReport) -> Reports
-    ensures { λ r. ⌜ r ≡ reports event charge1 charge2 ⌝ }
+pub(crate) fn silent_reports() -> Reports
+    ensures { λ r. ⌜ r ≡ silent ⌝ }
 {
     Reports {
-        event,
-        charge1,
-        charge2,
+        event: Report::None,
+        charge1: ChargeReport::None,
+        charge2: ChargeReport::None,
     }
 }
 
@@ -104,8 +103,7 @@ pub(crate) fn go_on(next: Record, reports: Reports, deadline: Deadline) -> Stepp
 pub(crate) fn go_on_quietly(next: Record) -> Stepped
     ensures { λ s. ⌜ s ≡ quietly next ⌝ }
 {
-    let silent = reports_of(Report::None, ChargeReport::None, ChargeReport::None);
-    go_on(next, silent, Deadline::None)
+    go_on(next, silent_reports(), Deadline::None)
 }
 
 pub(crate) fn end(r: Record, event: Report, t: Tenths) -> Stepped
@@ -117,7 +115,11 @@ pub(crate) fn end(r: Record, event: Report, t: Tenths) -> Stepped
     let c2 = leg2.charge;
     let charge1 = charging::report_of(t, c1);
     let charge2 = charging::report_of(t, c2);
-    let reports = reports_of(event, charge1, charge2);
+    let reports = Reports {
+        event,
+        charge1,
+        charge2,
+    };
     let outcome = Outcome {
         relationship: Relationship::None,
         hold: Hold::None,

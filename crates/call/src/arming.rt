@@ -1,39 +1,30 @@
 // Request report: all entries or none (document 01, One call and refusals 11 and 12).
 ghost use mathlib.Core.Path.{_≡_};
-ghost use mathlib.Core.Bool.{not};
+ghost use mathlib.Core.Bool.{_&&_};
 ghost use mathlib.Core.List.{[], _∷_};
 ghost use Rattle.call.specs.Answers.{firstOf};
 ghost use Rattle.call.specs.Refusals.{row11, row12};
-ghost use Rattle.call.specs.Arming.{entriesOf, named, isModeFor, isTimerFor, isGood, seenAfter, areGood, noneSeen, canOccur, isPossible, arePossible, keptAfter, armedBy, armedWith};
-use crate::answers::Check;
+ghost use Rattle.call.specs.Arming.{entriesOf, isModeFor, isTimerFor, isGood, seenAfter, areGood, noneSeen, canOccur, isPossible, arePossible, keptAfter, armedBy, armedWith, requestReport};
+use crate::answers;
+use crate::answers::*;
 use crate::charging;
 use crate::points;
 use crate::points::Named;
 use crate::points::Role;
-use crate::record::Arming;
-use crate::record::Record;
+use crate::record;
+use crate::record::*;
 use crate::relationship;
 use forms::item;
 use forms::item::Entry;
-use forms::units::Seconds;
+use forms::units::*;
 
-fn name_of(e: Entry) -> Named
-    ensures { λ r. ⌜ r ≡ named e ⌝ }
+// The mode and the timer are such as the role may have.
+fn is_fit(p: Role, m: u8, t: Seconds) -> bool
+    ensures { λ r. ⌜ r ≡ (isModeFor p m && isTimerFor p m t) ⌝ }
 {
-    points::role_of(e.leg, e.point)
-}
-
-fn is_mode_for(p: Role, m: u8) -> bool
-    ensures { λ r. ⌜ r ≡ isModeFor p m ⌝ }
-{
-    (m <= 2) & !(points::is_role(p, Role::Moved) & (m == 0))
-}
-
-fn is_timer_for(p: Role, m: u8, t: Seconds) -> bool
-    ensures { λ r. ⌜ r ≡ isTimerFor p m t ⌝ }
-{
-    (t.0 <= Seconds::LONGEST_TIMER.0)
-        & ((t.0 == 0) | (points::is_role(p, Role::NoAnswer) & (m <= 1)))
+    let moved = points::is_role(p, Role::Moved);
+    let timed = points::is_role(p, Role::NoAnswer) & (m <= 1);
+    ((m <= 2) & !(moved & (m == 0))) & ((t.0 <= Seconds::LONGEST_TIMER.0) & ((t.0 == 0) | timed))
 }
 
 // Refusal 11, of one entry: the roles that entries before it have named are `seen`.
@@ -47,7 +38,7 @@ fn is_good(x: Named, seen: [bool; 10], e: Entry) -> bool
         Named::Known(p) => {
             let i = points::place_of(p);
             let again = seen[i];
-            is_mode_for(p, mode) & is_timer_for(p, mode, timer) & !again
+            is_fit(p, mode, timer) & !again
         }
     }
 }
@@ -72,9 +63,7 @@ fn can_occur(r: Record, p: Role) -> bool
     let s = r.stage;
     let leg1 = r.leg1;
     let leg2 = r.leg2;
-    let p1 = leg1.presence;
-    let p2 = leg2.presence;
-    charging::is_present(p1) & (!charging::is_present(p2) | points::occurs_from(p, s))
+    charging::is_present(leg1) & (!charging::is_present(leg2) | points::occurs_from(p, s))
 }
 
 // Refusal 12, of one entry.
@@ -96,7 +85,7 @@ pub(crate) fn entries_refusal(r: Record, n: u8, t: &[u8]) -> Check
     let mut i: u8 = 0;
     while i < n {
         let e = item::nth_entry(t, i);
-        let x = name_of(e);
+        let x = points::role_of(e.leg, e.point);
         if is_good(x, seen, e) {
             let more = see(x, seen);
             seen = more;
@@ -148,8 +137,16 @@ pub(crate) fn arm_all(r: Record, n: u8, t: &[u8]) -> Record
     let mut i: u8 = 0;
     while i < n {
         let e = item::nth_entry(t, i);
-        s = arm(s, name_of(e), e);
+        let x = points::role_of(e.leg, e.point);
+        s = arm(s, x, e);
         i += 1;
     }
     s
+}
+
+// A Request report that no refusal applies to.
+pub(crate) fn request_report(r: Record, n: u8, entries: &[u8], t: Tenths) -> Stepped
+    ensures { λ s. ⌜ s ≡ requestReport r n (now (entries .entry)) t ⌝ }
+{
+    answers::go_on_quietly(arm_all(record::with_last(r, t), n, entries))
 }

@@ -2,24 +2,16 @@
 ghost use mathlib.Core.Path.{_≡_};
 ghost use Prim.Native.Nat.{_+_, _-_, min};
 ghost use lib.Dec.{ltb};
-ghost use Rattle.call.specs.Charging.{leg, isPresent, isPending, answered, granted, isStarted, isBeforeEnd, reportOf};
+ghost use Rattle.call.specs.Charging.{isPresent, isPending, answered, granted, isStarted, isBeforeEnd, reportOf};
 use crate::answers::ChargeReport;
 use crate::points;
-use crate::record::Charge;
-use crate::record::LegState;
-use crate::record::Presence;
-use crate::record::Stage;
+use crate::record::*;
 use forms::units::Tenths;
 
-pub(crate) fn leg_of(presence: Presence, charge: Charge) -> LegState
-    ensures { λ l. ⌜ l ≡ leg presence charge ⌝ }
+pub(crate) fn is_present(l: LegState) -> bool
+    ensures { λ r. ⌜ r ≡ isPresent (l .presence) ⌝ }
 {
-    LegState { presence, charge }
-}
-
-pub(crate) fn is_present(p: Presence) -> bool
-    ensures { λ r. ⌜ r ≡ isPresent p ⌝ }
-{
+    let p = l.presence;
     match p {
         Presence::Absent => false,
         Presence::Present => true,

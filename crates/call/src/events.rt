@@ -2,21 +2,12 @@
 ghost use mathlib.Core.Path.{_≡_};
 ghost use Rattle.call.specs.Events.{clearOf, isClearOf1, canMeet, eventReport, holdAfter, leaves, legAfter, chargeAfter, metRecord, endsCall, met};
 use crate::answers;
-use crate::answers::ChargeReport;
-use crate::answers::Deadline;
-use crate::answers::Report;
-use crate::answers::Stepped;
+use crate::answers::*;
 use crate::charging;
 use crate::points;
 use crate::points::Role;
 use crate::record;
-use crate::record::Charge;
-use crate::record::Hold;
-use crate::record::LegState;
-use crate::record::Mode;
-use crate::record::Presence;
-use crate::record::Record;
-use crate::record::Stage;
+use crate::record::*;
 use forms::item::Leg;
 use forms::units::Tenths;
 
@@ -50,8 +41,7 @@ pub(crate) fn can_meet(r: Record, p: Role) -> bool
     let pair = points::pair_of(p);
     let leg = pair.leg;
     let l = record::leg_at(leg, r);
-    let presence = l.presence;
-    points::met_in(p, s) & charging::is_present(presence)
+    points::met_in(p, s) & charging::is_present(l)
 }
 
 fn event_report(p: Role, m: Mode) -> Report
@@ -83,13 +73,19 @@ fn does_leave(p: Role, leg: Leg) -> bool
 fn leg_after(p: Role, leg: Leg, t: Tenths, l: LegState) -> LegState
     ensures { λ r. ⌜ r ≡ legAfter p leg t l ⌝ }
 {
-    if does_leave(p, leg) {
-        return charging::leg_of(Presence::Absent, Charge::None);
-    }
     let presence = l.presence;
     let c = l.charge;
+    if does_leave(p, leg) {
+        return LegState {
+            presence: Presence::Absent,
+            charge: Charge::None,
+        };
+    }
     if points::is_role(p, Role::Answer) {
-        return charging::leg_of(presence, charging::answer(t, c));
+        return LegState {
+            presence,
+            charge: charging::answer(t, c),
+        };
     }
     l
 }
@@ -146,6 +142,10 @@ pub(crate) fn meet(r: Record, p: Role, t: Tenths) -> Stepped
     }
     let charge1 = charge_after(p, Leg::One, t, l1);
     let charge2 = charge_after(p, Leg::Two, t, l2);
-    let reports = answers::reports_of(event, charge1, charge2);
+    let reports = Reports {
+        event,
+        charge1,
+        charge2,
+    };
     answers::go_on(met_record(r, p, m, t), reports, Deadline::None)
 }

@@ -9,5 +9,6 @@ pub mod range;
 pub mod record;
 pub mod refusals;
 pub mod relationship;
+pub mod setup;
 pub mod step;
 pub mod trigger;

@@ -4,27 +4,18 @@ ghost use mathlib.Core.Bool.{_&&_};
 ghost use Prim.Native.Nat.{_<_};
 ghost use Rattle.forms.specs.Units.{clockEnd};
 ghost use Rattle.call.specs.Charging.{isPresent};
+ghost use Rattle.call.specs.Record.{numberOf, timed};
+ghost use Rattle.call.specs.Answers.{quietly};
 ghost use Rattle.call.specs.Operations.{after, routeTimer, routed, resumed, continued, canConnect, connected, uncharged, dropped, isRelease, aborted, charged, reportOn, periodOver, chargeApplied};
 use crate::answers;
-use crate::answers::ChargeReport;
-use crate::answers::Deadline;
-use crate::answers::Report;
-use crate::answers::Reports;
-use crate::answers::Stepped;
+use crate::answers::*;
 use crate::charging;
 use crate::record;
-use crate::record::Charge;
-use crate::record::Hold;
-use crate::record::LegState;
-use crate::record::Number;
-use crate::record::Presence;
-use crate::record::Record;
-use crate::record::Stage;
+use crate::record::*;
 use crate::relationship;
 use forms::item::Leg;
 use forms::profile::Handling;
-use forms::units::Seconds;
-use forms::units::Tenths;
+use forms::units::*;
 
 pub(crate) fn deadline_after(t: Tenths, s: Seconds) -> Deadline
     requires { ⌜ t .0 < clockEnd ⌝ }
@@ -51,15 +42,16 @@ pub(crate) fn route(r: Record, t: Tenths) -> Stepped
     let none = Seconds(0);
     let mut next = r;
     next.kept = none;
-    let silent = answers::reports_of(Report::None, ChargeReport::None, ChargeReport::None);
-    answers::go_on(next, silent, deadline)
+    answers::go_on(next, answers::silent_reports(), deadline)
 }
 
 fn resume(r: Record, t: Tenths) -> Record
     ensures { λ s. ⌜ s ≡ resumed r t ⌝ }
 {
     let stage = r.stage;
-    record::place(record::with_last(r, t), stage, Hold::None)
+    let mut s = record::place(r, stage, Hold::None);
+    s.last = t;
+    s
 }
 
 fn has_both_legs(r: Record) -> bool
@@ -67,9 +59,7 @@ fn has_both_legs(r: Record) -> bool
 {
     let leg1 = r.leg1;
     let leg2 = r.leg2;
-    let p1 = leg1.presence;
-    let p2 = leg2.presence;
-    charging::is_present(p1) & charging::is_present(p2)
+    charging::is_present(leg1) & charging::is_present(leg2)
 }
 
 // Continue, from a hold.
@@ -94,28 +84,41 @@ pub(crate) fn can_connect(r: Record) -> bool
     let h = r.hold;
     let leg1 = r.leg1;
     let leg2 = r.leg2;
-    let p1 = leg1.presence;
-    let p2 = leg2.presence;
-    relationship::is_trigger(h) | (charging::is_present(p1) & !charging::is_present(p2))
+    relationship::is_trigger(h) | (charging::is_present(leg1) & !charging::is_present(leg2))
 }
 
-pub(crate) fn connect(r: Record, number: Number, t: Tenths) -> Record
+fn reconnect(r: Record, number: Number, t: Tenths) -> Record
     ensures { λ s. ⌜ s ≡ connected r number t ⌝ }
 {
     let l = r.leg2;
-    let c = l.charge;
-    let leg2 = charging::leg_of(Presence::Present, c);
-    let mut s = record::place(record::with_last(r, t), Stage::Analysing, Hold::None);
+    let charge = l.charge;
+    let leg2 = LegState {
+        presence: Presence::Present,
+        charge,
+    };
+    let mut s = record::place(r, Stage::Analysing, Hold::None);
     s.leg2 = leg2;
+    s.last = t;
     s.number = number;
     s
+}
+
+pub(crate) fn connect(r: Record, nature: u8, count: u8, digits: &[u8], t: Tenths) -> Stepped
+    requires { ⌜ t .0 < clockEnd ⌝ }
+    ensures { λ s. ⌜ s ≡ routed (connected r (numberOf nature count (now (digits .entry))) t) t ⌝ }
+{
+    let number = record::number_of(nature, count, digits);
+    route(reconnect(r, number, t), t)
 }
 
 fn without_charge(l: LegState) -> LegState
     ensures { λ r. ⌜ r ≡ uncharged l ⌝ }
 {
     let presence = l.presence;
-    charging::leg_of(presence, Charge::None)
+    LegState {
+        presence,
+        charge: Charge::None,
+    }
 }
 
 // All armings, charges and the kept timer are dropped.
@@ -167,15 +170,27 @@ fn charge(r: Record, leg: Leg, c: Charge, t: Tenths) -> Record
 {
     let l = record::leg_at(leg, r);
     let presence = l.presence;
-    record::with_leg(leg, record::with_last(r, t), charging::leg_of(presence, c))
+    let next = LegState {
+        presence,
+        charge: c,
+    };
+    record::with_leg(leg, record::with_last(r, t), next)
 }
 
 fn report_on(leg: Leg, c: ChargeReport) -> Reports
     ensures { λ r. ⌜ r ≡ reportOn leg c ⌝ }
 {
     match leg {
-        Leg::One => answers::reports_of(Report::None, c, ChargeReport::None),
-        Leg::Two => answers::reports_of(Report::None, ChargeReport::None, c),
+        Leg::One => Reports {
+            event: Report::None,
+            charge1: c,
+            charge2: ChargeReport::None,
+        },
+        Leg::Two => Reports {
+            event: Report::None,
+            charge1: ChargeReport::None,
+            charge2: c,
+        },
     }
 }
 
@@ -194,4 +209,11 @@ pub(crate) fn apply_charging(r: Record, leg: Leg, period: Tenths, t: Tenths) -> 
     let stage = r.stage;
     let c = charging::grant(stage, period, t);
     answers::go_on_quietly(charge(r, leg, c, t))
+}
+
+// Activity test: nothing but the time changes.
+pub(crate) fn test(r: Record, t: Tenths) -> Stepped
+    ensures { λ s. ⌜ s ≡ quietly (timed r t) ⌝ }
+{
+    answers::go_on_quietly(record::with_last(r, t))
 }

@@ -6,9 +6,7 @@ ghost use lib.Dec.{eqb};
 ghost use Rattle.forms.specs.Fields.{legNumber};
 ghost use Rattle.forms.specs.declared.item.Leg.the-variants as leg;
 ghost use Rattle.call.specs.Points.{pairOf, roles, placeOf, isRole, isOnLeg, roleOf, isAnalysing, isActive, metIn, occursFrom, onLeg, disarms, losesLeg, stageAfter, modeAt, disarmed};
-use crate::record::Arming;
-use crate::record::Mode;
-use crate::record::Stage;
+use crate::record::*;
 use forms::item::Leg;
 
 pub enum Role {
@@ -36,27 +34,51 @@ pub(crate) enum Named {
     Known(Role),
 }
 
-fn leg_point(leg: Leg, point: u8) -> Pair
-    ensures { λ r. ⌜ r ≡ record { leg = leg; point = point } ⌝ }
-{
-    Pair { leg, point }
-}
-
 // The one table between roles and numbers.
 pub fn pair_of(p: Role) -> Pair
     ensures { λ r. ⌜ r ≡ pairOf p ⌝ }
 {
     match p {
-        Role::MidCall => leg_point(Leg::One, 8),
-        Role::Disconnect1 => leg_point(Leg::One, 9),
-        Role::Abandon => leg_point(Leg::One, 10),
-        Role::Moved => leg_point(Leg::One, 50),
-        Role::RouteFailure => leg_point(Leg::Two, 4),
-        Role::Busy => leg_point(Leg::Two, 5),
-        Role::NoAnswer => leg_point(Leg::Two, 6),
-        Role::Answer => leg_point(Leg::Two, 7),
-        Role::Disconnect2 => leg_point(Leg::Two, 9),
-        Role::Seized => leg_point(Leg::Two, 19),
+        Role::MidCall => Pair {
+            leg: Leg::One,
+            point: 8,
+        },
+        Role::Disconnect1 => Pair {
+            leg: Leg::One,
+            point: 9,
+        },
+        Role::Abandon => Pair {
+            leg: Leg::One,
+            point: 10,
+        },
+        Role::Moved => Pair {
+            leg: Leg::One,
+            point: 50,
+        },
+        Role::RouteFailure => Pair {
+            leg: Leg::Two,
+            point: 4,
+        },
+        Role::Busy => Pair {
+            leg: Leg::Two,
+            point: 5,
+        },
+        Role::NoAnswer => Pair {
+            leg: Leg::Two,
+            point: 6,
+        },
+        Role::Answer => Pair {
+            leg: Leg::Two,
+            point: 7,
+        },
+        Role::Disconnect2 => Pair {
+            leg: Leg::Two,
+            point: 9,
+        },
+        Role::Seized => Pair {
+            leg: Leg::Two,
+            point: 19,
+        },
     }
 }
 
@@ -167,17 +189,19 @@ pub(crate) fn is_active(s: Stage) -> bool
 pub(crate) fn met_in(p: Role, s: Stage) -> bool
     ensures { λ r. ⌜ r ≡ metIn p s ⌝ }
 {
+    let analysing = is_analysing(s);
+    let active = is_active(s);
     match p {
-        Role::RouteFailure => is_analysing(s),
-        Role::Seized => is_analysing(s),
-        Role::Busy => !is_active(s),
-        Role::NoAnswer => !is_active(s),
-        Role::Answer => !is_active(s),
-        Role::MidCall => is_active(s),
-        Role::Moved => !is_analysing(s),
-        Role::Abandon => !is_active(s),
-        Role::Disconnect1 => is_active(s),
-        Role::Disconnect2 => is_active(s),
+        Role::RouteFailure => analysing,
+        Role::Seized => analysing,
+        Role::Busy => !active,
+        Role::NoAnswer => !active,
+        Role::Answer => !active,
+        Role::MidCall => active,
+        Role::Moved => !analysing,
+        Role::Abandon => !active,
+        Role::Disconnect1 => active,
+        Role::Disconnect2 => active,
     }
 }
 
@@ -185,13 +209,15 @@ pub(crate) fn met_in(p: Role, s: Stage) -> bool
 pub(crate) fn occurs_from(p: Role, s: Stage) -> bool
     ensures { λ r. ⌜ r ≡ occursFrom p s ⌝ }
 {
+    let analysing = is_analysing(s);
+    let active = is_active(s);
     match p {
-        Role::RouteFailure => is_analysing(s),
-        Role::Seized => is_analysing(s),
-        Role::Busy => !is_active(s),
-        Role::NoAnswer => !is_active(s),
-        Role::Answer => !is_active(s),
-        Role::Abandon => !is_active(s),
+        Role::RouteFailure => analysing,
+        Role::Seized => analysing,
+        Role::Busy => !active,
+        Role::NoAnswer => !active,
+        Role::Answer => !active,
+        Role::Abandon => !active,
         Role::MidCall => true,
         Role::Disconnect1 => true,
         Role::Moved => true,

@@ -6,14 +6,9 @@ ghost use Rattle.forms.specs.Fields.{isDigit};
 ghost use Rattle.call.specs.Range.{chargeInRange, holdInRange, placesInRange, numberInRange, recordInRange};
 use crate::points;
 use crate::points::Role;
-use crate::record::Charge;
-use crate::record::Hold;
-use crate::record::Mode;
-use crate::record::Number;
-use crate::record::Record;
+use crate::record::*;
 use crate::relationship;
-use forms::units::Seconds;
-use forms::units::Tenths;
+use forms::units::*;
 
 fn charge_in_range(c: Charge, last: Tenths) -> bool
     ensures { λ b. ⌜ b ≡ chargeInRange c last ⌝ }

@@ -1,14 +1,12 @@
 // The record of one call (document 01, One call), and records with some fields replaced.
 ghost use mathlib.Core.Path.{_≡_};
 ghost use Rattle.forms.specs.Item.{pad};
-ghost use Rattle.call.specs.Record.{noArmings, noTimer, numberOf, blank, timed, placed, legAt, withLeg};
-use crate::charging;
+ghost use Rattle.call.specs.Record.{noArmings, numberOf, blank, timed, placed, legAt, withLeg};
 use crate::points::Role;
 use forms::bytes;
 use forms::item::Leg;
 use forms::profile::Handling;
-use forms::units::Seconds;
-use forms::units::Tenths;
+use forms::units::*;
 
 pub enum Stage {
     Analysing,

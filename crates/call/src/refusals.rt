@@ -47,8 +47,8 @@ fn control_refusal(r: Record, t: Tenths, then: Check) -> Check
     ensures { λ c. ⌜ c ≡ cond (row7 r t .applies) (Check.Fail 7) (cond (row8 r .applies) (Check.Fail 8) then) ⌝ }
 {
     let last = r.last;
-    let control = relationship::is_control(relationship::relationship_of(r));
-    answers::refuse_if(t.0 < last.0, 7, answers::refuse_if(!control, 8, then))
+    let by_relationship = answers::refuse_if(!relationship::has_control(r), 8, then);
+    answers::refuse_if(t.0 < last.0, 7, by_relationship)
 }
 
 // Rows 7 and 8 of an operation that needs any relationship.
@@ -56,23 +56,17 @@ fn related_refusal(r: Record, t: Tenths) -> Check
     ensures { λ c. ⌜ c ≡ firstOf (row7 r t ∷ row8Any r ∷ []) ⌝ }
 {
     let last = r.last;
-    let related = relationship::is_related(relationship::relationship_of(r));
-    answers::refuse_if(
-        t.0 < last.0,
-        7,
-        answers::refuse_if(!related, 8, Check::Pass),
-    )
+    let by_relationship = answers::refuse_if(!relationship::has_relationship(r), 8, Check::Pass);
+    answers::refuse_if(t.0 < last.0, 7, by_relationship)
 }
 
 fn charging_refusal(r: Record, leg: Leg) -> Check
     ensures { λ c. ⌜ c ≡ firstOf (row12 (isPresent (r .leg1 .presence) && isPresent (legAt leg r .presence)) ∷ row13 r leg ∷ []) ⌝ }
 {
     let leg1 = r.leg1;
-    let p1 = leg1.presence;
     let l = record::leg_at(leg, r);
-    let presence = l.presence;
     let charge = l.charge;
-    let possible = charging::is_present(p1) & charging::is_present(presence);
+    let possible = charging::is_present(leg1) & charging::is_present(l);
     let pending = answers::refuse_if(charging::is_pending(charge), 13, Check::Pass);
     answers::refuse_if(!possible, 12, pending)
 }

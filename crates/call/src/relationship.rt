@@ -3,10 +3,7 @@ ghost use mathlib.Core.Path.{_≡_};
 ghost use Rattle.call.specs.Relationship.{modeNumber, modeOf, isMode, someArmed, isHeld, isTrigger, relationshipOf, isControl, isRelated};
 use crate::answers::Relationship;
 use crate::charging;
-use crate::record::Arming;
-use crate::record::Hold;
-use crate::record::Mode;
-use crate::record::Record;
+use crate::record::*;
 
 fn mode_number(m: Mode) -> u8
     ensures { λ r. ⌜ r ≡ modeNumber m ⌝ }
@@ -87,9 +84,10 @@ pub(crate) fn relationship_of(r: Record) -> Relationship
     Relationship::None
 }
 
-pub(crate) fn is_control(x: Relationship) -> bool
-    ensures { λ r. ⌜ r ≡ isControl x ⌝ }
+pub(crate) fn has_control(r: Record) -> bool
+    ensures { λ b. ⌜ b ≡ isControl (relationshipOf r) ⌝ }
 {
+    let x = relationship_of(r);
     match x {
         Relationship::None => false,
         Relationship::Monitor => false,
@@ -97,9 +95,10 @@ pub(crate) fn is_control(x: Relationship) -> bool
     }
 }
 
-pub(crate) fn is_related(x: Relationship) -> bool
-    ensures { λ r. ⌜ r ≡ isRelated x ⌝ }
+pub(crate) fn has_relationship(r: Record) -> bool
+    ensures { λ b. ⌜ b ≡ isRelated (relationshipOf r) ⌝ }
 {
+    let x = relationship_of(r);
     match x {
         Relationship::None => false,
         Relationship::Monitor => true,

@@ -6,4 +6,4 @@ pub go-on-quietly-spec : {M : Type 1} → statement M
 go-on-quietly-spec =
     tie.close
     (tie.spec (search needs) (search needs)
-    (λ c. simp (c .go-on .ensures, c .before .reports-of .ensures)))
+    (λ c. simp (c .go-on .ensures, c .before .silent-reports .ensures)))

@@ -20,7 +20,7 @@ loop-again : tie.Need-loop-again Inv-loop μ-loop
 loop-again c =
     let p = c .before .before .before .before in
     let a = p .before .before .args in
-    (omega arith, rw (c .arm .ensures, c .before .name-of .ensures, c .before .before .nth-entry .ensures) (arm-step (a .n) (p .loop .i) (a .t .now) (c .before .before .before .loop-test .taken) (p .loop .s) ∙ p .loop .inv .1))
+    (omega arith, rw (c .arm .ensures, c .before .role-of .ensures, c .before .before .nth-entry .ensures) (arm-step (a .n) (p .loop .i) (a .t .now) (c .before .before .before .loop-test .taken) (p .loop .s) ∙ p .loop .inv .1))
 
 returns : tie.Need-returns Inv-loop μ-loop
 returns c =

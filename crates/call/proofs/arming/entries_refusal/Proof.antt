@@ -26,7 +26,7 @@ loop-again c =
     let a = p .before .before .args in
     let h = q .before .before .before .loop-test .taken in
     let e = q .before .before .nth-entry .ensures in
-    let x = q .before .name-of .ensures in
+    let x = q .before .role-of .ensures in
     let g = (simp (x, e) at (sym (q .is-good .ensures))) ∙ c .before .before .if1 .taken in (
       omega arith,
       rw (c .before .see .ensures, x, e) (good-step (a .n) (p .loop .i) (a .t .now) h (p .loop .seen) g ∙ p .loop .inv .1),
@@ -38,7 +38,7 @@ returns c =
     let q = c .before in
     let p = q .before .before .before .before in
     let a = p .before .before .args in
-    let g = (simp (q .before .name-of .ensures, q .before .before .nth-entry .ensures) at (sym (q .is-good .ensures))) ∙ c .if1 .left in
+    let g = (simp (q .before .role-of .ensures, q .before .before .nth-entry .ensures) at (sym (q .is-good .ensures))) ∙ c .if1 .left in
     rw (sym (p .loop .inv .1) ∙ good-stop (a .n) (p .loop .i) (a .t .now) (q .before .before .before .loop-test .taken) (p .loop .seen) g)
 
 returns-2 : tie.Need-returns-2 Inv-loop μ-loop

@@ -5,5 +5,5 @@ use Rattle.call.proofs.arming.is_good.Tie as tie
 pub is-good-spec : {M : Type 1} → statement M
 is-good-spec =
     tie.close
-    (tie.spec (search needs) (search needs) (search needs) (search needs) (search needs) (search needs) (λ c. search needs)
-    (λ c. simp (c .is-timer-for .ensures, c .before .is-mode-for .ensures, c .before .before .place-of .ensures .0, c .before .before .before .before .x .given .1)))
+    (tie.spec (search needs) (search needs) (search needs) (search needs) (search needs) (λ c. search needs)
+    (λ c. simp (c .is-fit .ensures, c .before .place-of .ensures .0, c .before .before .before .x .given .1)))

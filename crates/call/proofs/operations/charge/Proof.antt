@@ -5,5 +5,5 @@ use Rattle.call.proofs.operations.charge.Tie as tie
 pub charge-spec : {M : Type 1} → statement M
 charge-spec =
     tie.close
-    (tie.spec (search needs) (search needs) (search needs) (search needs)
-    (λ c. simp (c .with-leg .ensures, c .before .leg-of .ensures, c .before .before .with-last .ensures, c .before .before .before .leg-at .ensures)))
+    (tie.spec (search needs) (search needs) (search needs)
+    (λ c. simp (c .with-leg .ensures, c .before .with-last .ensures, c .before .before .leg-at .ensures)))

@@ -5,6 +5,6 @@ use Rattle.call.proofs.operations.report_on.Tie as tie
 pub report-on-spec : {M : Type 1} → statement M
 report-on-spec =
     tie.close
-    (tie.spec (search needs) (search needs) (search needs) (search needs)
-    (λ c. simp (c .reports-of .ensures, c .before .enum-told .given .1))
-    (λ c. simp (c .reports-of2 .ensures, c .before .enum-told2 .given .1)))
+    (tie.spec (search needs) (search needs)
+    (λ c. simp (c .enum-told .given .1))
+    (λ c. simp (c .enum-told2 .given .1)))

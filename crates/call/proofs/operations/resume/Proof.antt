@@ -5,5 +5,5 @@ use Rattle.call.proofs.operations.resume.Tie as tie
 pub resume-spec : {M : Type 1} → statement M
 resume-spec =
     tie.close
-    (tie.spec (search needs) (search needs)
-    (λ c. simp (c .place .ensures, c .before .with-last .ensures)))
+    (tie.spec (search needs)
+    (λ c. simp (c .place .ensures)))

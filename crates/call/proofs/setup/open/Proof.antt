@@ -1,9 +1,9 @@
 use mathlib.Core.Path.{sym, _∙_}
 use borrow.Author.Needs.{needs}
-use Rattle.call.specs.Step.{openOf}
+use Rattle.call.specs.Setup.{openOf}
 use Rattle.call.proofs.Laws.{item-fits}
-use Rattle.call.proofs.step.open.Statement.{statement}
-use Rattle.call.proofs.step.open.Tie as tie
+use Rattle.call.proofs.setup.open.Statement.{statement}
+use Rattle.call.proofs.setup.open.Tie as tie
 
 open-as-requires : tie.Need-open-as-requires
 open-as-requires c κs =

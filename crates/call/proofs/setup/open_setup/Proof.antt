@@ -2,8 +2,8 @@ use mathlib.Core.Path.{sym, _∙_}
 use borrow.Author.Needs.{needs}
 use Rattle.forms.specs.Profile.{profileOf}
 use Rattle.call.proofs.Laws.{profile-read, profile-refused}
-use Rattle.call.proofs.step.open_setup.Statement.{statement}
-use Rattle.call.proofs.step.open_setup.Tie as tie
+use Rattle.call.proofs.setup.open_setup.Statement.{statement}
+use Rattle.call.proofs.setup.open_setup.Tie as tie
 
 is-triggered-requires : tie.Need-is-triggered-requires
 is-triggered-requires c κs =

@@ -1,0 +1,9 @@
+use borrow.Author.Needs.{needs}
+use Rattle.call.proofs.setup.opened_record.Statement.{statement}
+use Rattle.call.proofs.setup.opened_record.Tie as tie
+
+pub opened-record-spec : {M : Type 1} → statement M
+opened-record-spec =
+    tie.close
+    (tie.spec (search needs)
+    (λ c. simp (c .no-armings .ensures)))

@@ -1,0 +1,68 @@
+-- Document 01, A call by itself and Triggering: a Setup opens a call.
+use Prim.Native.Nat.{ℕ}
+use mathlib.Core.Bool.{Bool, true, false}
+use mathlib.Core.List.{List, [], _∷_}
+use Rattle.forms.specs.Profile.{profileOf}
+use Rattle.forms.specs.declared.item.Item.{Item}
+use Rattle.forms.specs.declared.profile.Handling.{Handling}
+use Rattle.forms.specs.declared.units.Tenths.{Tenths}
+use Rattle.forms.specs.declared.units.Seconds.{Seconds}
+use Rattle.call.specs.declared.record.Stage.the-variants.{Analysing}
+use Rattle.call.specs.declared.record.Presence.the-variants.{Present}
+use Rattle.call.specs.declared.record.Charge.the-variants as charge
+use Rattle.call.specs.declared.record.Hold.{Hold}
+use Rattle.call.specs.declared.record.Hold.the-variants as hold
+use Rattle.call.specs.declared.record.Number.{Number}
+use Rattle.call.specs.declared.record.Record.{Record}
+use Rattle.call.specs.declared.answers.Report.the-variants as report
+use Rattle.call.specs.declared.answers.ChargeReport.the-variants as due
+use Rattle.call.specs.declared.answers.Deadline.the-variants as deadline
+use Rattle.call.specs.declared.answers.Stepped.{Stepped}
+use Rattle.call.specs.declared.step.Kind.{Kind}
+use Rattle.call.specs.declared.step.Kind.the-variants as kind
+use Rattle.call.specs.Charging.{leg}
+use Rattle.call.specs.Record.{noArmings, noTimer, numberOf, blank}
+use Rattle.call.specs.Answers.{firstOf, reports, goesOn, refused, guarded}
+use Rattle.call.specs.Trigger.{triggers}
+use Rattle.call.specs.Operations.{routed}
+use Rattle.call.specs.Refusals.{row1, row2}
+use Rattle.call.specs.Step.{kindOf}
+
+-- "stage analysing, both legs, held as Triggering says, last time the item's, nothing armed, no charge, no kept timer, the profile's defaults, the Setup's number"
+
+abbrev pub opened : Seconds → Handling → Number → Hold → Tenths → Record
+opened timer handling number hold t = record {
+  stage = Analysing;
+  leg1 = leg Present charge.None;
+  leg2 = leg Present charge.None;
+  hold = hold;
+  last = t;
+  armings = noArmings;
+  kept = noTimer;
+  timer = timer;
+  handling = handling;
+  number = number;
+}
+
+-- Triggering: "the call is held at point 2 and an interrupting report for 2, leg 1, goes out; otherwise it goes on with no relationship". "Routing starts at an untriggered Setup"
+abbrev pub begun : Bool → Seconds → Handling → Number → Tenths → Stepped
+begun true timer handling number t = goesOn (opened timer handling number hold.Trigger t) (reports report.Trigger due.None due.None) deadline.None
+begun false timer handling number t = routed (opened timer handling number hold.None t) t
+
+abbrev pub openAs : Kind → List ℕ → Tenths → List ℕ → Stepped
+openAs (kind.Setup nature service forwarded count) s t rest =
+    let p = profileOf s in
+    guarded (firstOf (row2 s ∷ [])) blank (begun (triggers p nature service forwarded rest) (p .timer) (p .handling) (numberOf nature count rest) t)
+openAs (kind.Event x) s t rest = refused blank 4
+openAs (kind.PeriodOver l) s t rest = refused blank 4
+openAs (kind.RequestReport n) s t rest = refused blank 4
+openAs kind.Continue s t rest = refused blank 4
+openAs (kind.Connect nature count) s t rest = refused blank 4
+openAs kind.Release s t rest = refused blank 4
+openAs (kind.ApplyCharging l period) s t rest = refused blank 4
+openAs kind.ActivityTest s t rest = refused blank 4
+openAs kind.Abort s t rest = refused blank 4
+
+-- any item, with its digits and the bytes s of its profile, where no call is open: a Setup opens one, all else is 4
+unfoldable pub openOf : Item → List ℕ → List ℕ → Stepped
+openOf i rest s = guarded (firstOf (row1 i rest ∷ [])) blank (openAs (kindOf (i .body) Analysing) s (i .time) rest)
