@@ -15,17 +15,11 @@ use Rattle.forms.specs.Item.{entryOf, pad}
 use Rattle.forms.specs.Item.{formOf, restInRange, itemInRange}
 use Rattle.forms.specs.Profile.{viewOf, profileOf, isProfile, readProfile}
 use Rattle.forms.specs.Units.{clockEnd}
-use Rattle.forms.specs.declared.item.Entry.{Entry}
-use Rattle.forms.specs.declared.item.Item.{Item}
+use Rattle.call.specs.Types.{Entry, Item, Tenths, Mode, Arming, Record, Check}
 use Rattle.forms.specs.declared.profile.ProfileView.{ProfileView}
 use Rattle.forms.specs.declared.profile.ReadProfile.the-variants.{Profile, Refused}
-use Rattle.forms.specs.declared.units.Tenths.{Tenths}
 use Rattle.forms.proofs.ByteLaws.{and-left, and-right}
 use Rattle.forms.proofs.ItemLaws.{item-size}
-use Rattle.call.specs.declared.record.Mode.{Mode}
-use Rattle.call.specs.declared.record.Arming.{Arming}
-use Rattle.call.specs.declared.record.Record.{Record}
-use Rattle.call.specs.declared.answers.Check.{Check}
 use Rattle.call.specs.declared.answers.Check.the-variants.{Pass, Fail}
 use Rattle.call.specs.Points.{unarmed}
 use Rattle.call.specs.Relationship.{isMode, someArmed}

@@ -5,13 +5,9 @@ use mathlib.Core.List.{List, [], _∷_}
 use mathlib.Core.Option.{Option, none, some}
 use lib.ListN.{drop}
 use Rattle.forms.specs.Item.{readItem}
-use Rattle.forms.specs.declared.item.Item.{Item}
-use Rattle.forms.specs.declared.item.ReadItem.{ReadItem}
+use Rattle.call.specs.Types.{Item, ReadItem, Record, Answer, Stepped}
 use Rattle.forms.specs.declared.item.ReadItem.the-variants as read
-use Rattle.call.specs.declared.record.Record.{Record}
-use Rattle.call.specs.declared.answers.Answer.{Answer}
 use Rattle.call.specs.declared.answers.Answer.the-variants.{Accepted, Refused}
-use Rattle.call.specs.declared.answers.Stepped.{Stepped}
 use Rattle.call.specs.Answers.{firstOf, refused, guarded}
 use Rattle.call.specs.Refusals.{row2, row5}
 use Rattle.call.specs.Step.{isSetup, respondOf}

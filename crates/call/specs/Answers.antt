@@ -2,21 +2,14 @@
 use Prim.Native.Nat.{ℕ}
 use mathlib.Core.Bool.{Bool, true, false, cond}
 use mathlib.Core.List.{List, [], _∷_}
-use Rattle.forms.specs.declared.units.Tenths.{Tenths}
+use Rattle.call.specs.Types.{Tenths, Record, Report, ChargeReport, Reports, Deadline, Check, Stepped}
 use Rattle.call.specs.declared.record.Hold.the-variants as hold
-use Rattle.call.specs.declared.record.Record.{Record}
 use Rattle.call.specs.declared.answers.Relationship.the-variants as relationship
-use Rattle.call.specs.declared.answers.Report.{Report}
 use Rattle.call.specs.declared.answers.Report.the-variants as report
-use Rattle.call.specs.declared.answers.ChargeReport.{ChargeReport}
 use Rattle.call.specs.declared.answers.ChargeReport.the-variants as charge
-use Rattle.call.specs.declared.answers.Reports.{Reports}
-use Rattle.call.specs.declared.answers.Deadline.{Deadline}
 use Rattle.call.specs.declared.answers.Deadline.the-variants as deadline
 use Rattle.call.specs.declared.answers.Answer.the-variants.{Accepted, Refused}
-use Rattle.call.specs.declared.answers.Check.{Check}
 use Rattle.call.specs.declared.answers.Check.the-variants.{Pass, Fail}
-use Rattle.call.specs.declared.answers.Stepped.{Stepped}
 use Rattle.call.specs.Charging.{reportOf}
 use Rattle.call.specs.Relationship.{relationshipOf}
 use Rattle.call.specs.Record.{blank}

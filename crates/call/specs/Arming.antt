@@ -6,15 +6,9 @@ use lib.Dec.{leb, eqb}
 use lib.ListN.{getD, set, drop, replicate}
 use Rattle.forms.specs.Item.{entryOf}
 use Rattle.forms.specs.Units.{isTimer}
-use Rattle.forms.specs.declared.item.Entry.{Entry}
-use Rattle.forms.specs.declared.units.Seconds.{Seconds}
-use Rattle.forms.specs.declared.units.Tenths.{Tenths}
-use Rattle.call.specs.declared.points.Role.{Role}
+use Rattle.call.specs.Types.{Entry, Seconds, Tenths, Role, Named, Record, Stepped}
 use Rattle.call.specs.declared.points.Role.the-variants.{Moved, NoAnswer}
-use Rattle.call.specs.declared.points.Named.{Named}
 use Rattle.call.specs.declared.points.Named.the-variants.{Unknown, Known}
-use Rattle.call.specs.declared.record.Record.{Record}
-use Rattle.call.specs.declared.answers.Stepped.{Stepped}
 use Rattle.call.specs.Points.{placeOf, isRole, roleOf, occursFrom}
 use Rattle.call.specs.Charging.{isPresent}
 use Rattle.call.specs.Relationship.{modeOf}

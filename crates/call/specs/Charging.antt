@@ -2,14 +2,9 @@
 use Prim.Native.Nat.{_+_, _-_, min}
 use mathlib.Core.Bool.{Bool, true, false, cond}
 use lib.Dec.{ltb}
-use Rattle.forms.specs.declared.units.Tenths.{Tenths}
-use Rattle.call.specs.declared.record.Presence.{Presence}
+use Rattle.call.specs.Types.{Tenths, Presence, Charge, LegState, Stage, ChargeReport}
 use Rattle.call.specs.declared.record.Presence.the-variants.{Absent, Present}
-use Rattle.call.specs.declared.record.Charge.{Charge}
 use Rattle.call.specs.declared.record.Charge.the-variants as charge
-use Rattle.call.specs.declared.record.LegState.{LegState}
-use Rattle.call.specs.declared.record.Stage.{Stage}
-use Rattle.call.specs.declared.answers.ChargeReport.{ChargeReport}
 use Rattle.call.specs.declared.answers.ChargeReport.the-variants as report
 use Rattle.call.specs.Points.{isActive}
 

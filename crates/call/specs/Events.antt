@@ -1,25 +1,15 @@
 -- Document 01, One call: an event meets a role; what is reported, disarmed and held, and whether the call is over.
 use mathlib.Core.Bool.{Bool, false, cond, _&&_, _||_}
-use Rattle.forms.specs.declared.item.Leg.{Leg}
+use Rattle.call.specs.Types.{Leg, Tenths, Role, Stage, Mode, Hold, LegState, Record, Report, ChargeReport, Stepped}
 use Rattle.forms.specs.declared.item.Leg.the-variants.{One, Two}
-use Rattle.forms.specs.declared.units.Tenths.{Tenths}
-use Rattle.call.specs.declared.points.Role.{Role}
 use Rattle.call.specs.declared.points.Role.the-variants.{Disconnect1, Abandon, Disconnect2, Answer}
-use Rattle.call.specs.declared.record.Stage.{Stage}
-use Rattle.call.specs.declared.record.Mode.{Mode}
 use Rattle.call.specs.declared.record.Mode.the-variants as mode
-use Rattle.call.specs.declared.record.Hold.{Hold}
 use Rattle.call.specs.declared.record.Hold.the-variants as hold
 use Rattle.call.specs.declared.record.Presence.the-variants.{Absent}
 use Rattle.call.specs.declared.record.Charge.the-variants as charge
-use Rattle.call.specs.declared.record.LegState.{LegState}
-use Rattle.call.specs.declared.record.Record.{Record}
-use Rattle.call.specs.declared.answers.Report.{Report}
 use Rattle.call.specs.declared.answers.Report.the-variants as report
-use Rattle.call.specs.declared.answers.ChargeReport.{ChargeReport}
 use Rattle.call.specs.declared.answers.ChargeReport.the-variants as due
 use Rattle.call.specs.declared.answers.Deadline.the-variants as deadline
-use Rattle.call.specs.declared.answers.Stepped.{Stepped}
 use Rattle.call.specs.Points.{isRole, legOf, isOnLeg, isActive, metIn, losesLeg, stageAfter, disarms, modeAt, disarmed}
 use Rattle.call.specs.Charging.{leg, isPresent, answered, reportOf}
 use Rattle.call.specs.Record.{made, legAt}

@@ -1,3 +1,4 @@
+pub mod Types
 pub mod Points
 pub mod Charging
 pub mod Relationship

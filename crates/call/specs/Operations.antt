@@ -3,27 +3,16 @@ use Prim.Native.Nat.{_+_}
 use mathlib.Core.Bool.{Bool, true, false, not, cond, _&&_, _||_}
 use lib.Dec.{eqb}
 use Rattle.forms.specs.Units.{tenthsOf}
-use Rattle.forms.specs.declared.item.Leg.{Leg}
+use Rattle.call.specs.Types.{Leg, Handling, Tenths, Seconds, Charge, LegState, Number, Record, ChargeReport, Reports, Deadline, Stepped}
 use Rattle.forms.specs.declared.item.Leg.the-variants.{One, Two}
-use Rattle.forms.specs.declared.profile.Handling.{Handling}
 use Rattle.forms.specs.declared.profile.Handling.the-variants.{Continue, Release}
-use Rattle.forms.specs.declared.units.Tenths.{Tenths}
-use Rattle.forms.specs.declared.units.Seconds.{Seconds}
 use Rattle.call.specs.declared.record.Presence.the-variants.{Present}
-use Rattle.call.specs.declared.record.Charge.{Charge}
 use Rattle.call.specs.declared.record.Charge.the-variants as charge
-use Rattle.call.specs.declared.record.LegState.{LegState}
 use Rattle.call.specs.declared.record.Stage.the-variants.{Analysing}
 use Rattle.call.specs.declared.record.Hold.the-variants as hold
-use Rattle.call.specs.declared.record.Number.{Number}
-use Rattle.call.specs.declared.record.Record.{Record}
 use Rattle.call.specs.declared.answers.Report.the-variants as report
-use Rattle.call.specs.declared.answers.ChargeReport.{ChargeReport}
 use Rattle.call.specs.declared.answers.ChargeReport.the-variants as due
-use Rattle.call.specs.declared.answers.Reports.{Reports}
-use Rattle.call.specs.declared.answers.Deadline.{Deadline}
 use Rattle.call.specs.declared.answers.Deadline.the-variants as deadline
-use Rattle.call.specs.declared.answers.Stepped.{Stepped}
 use Rattle.call.specs.Charging.{leg, isPresent, granted, reportOf}
 use Rattle.call.specs.Relationship.{isHeld, isTrigger}
 use Rattle.call.specs.Record.{noArmings, noTimer, timed, placed, withLegs, legAt, withLeg, armedAs, numbered}

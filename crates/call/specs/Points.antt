@@ -6,18 +6,12 @@ use mathlib.Core.Bool.{Bool, true, false, not, cond, _&&_}
 use lib.Dec.{eqb}
 use lib.ListN.{getD, set}
 use Rattle.forms.specs.Fields.{legNumber}
-use Rattle.forms.specs.declared.item.Leg.{Leg}
+use Rattle.call.specs.Types.{Leg, Role, Pair, Named, Stage, Mode, Arming}
 use Rattle.forms.specs.declared.item.Leg.the-variants.{One, Two}
-use Rattle.call.specs.declared.points.Role.{Role}
 use Rattle.call.specs.declared.points.Role.the-variants.{MidCall, Disconnect1, Abandon, Moved, RouteFailure, Busy, NoAnswer, Answer, Disconnect2, Seized}
-use Rattle.call.specs.declared.points.Pair.{Pair}
-use Rattle.call.specs.declared.points.Named.{Named}
 use Rattle.call.specs.declared.points.Named.the-variants.{Unknown, Known}
-use Rattle.call.specs.declared.record.Stage.{Stage}
 use Rattle.call.specs.declared.record.Stage.the-variants.{Analysing, Alerting, Active}
-use Rattle.call.specs.declared.record.Mode.{Mode}
 use Rattle.call.specs.declared.record.Mode.the-variants as mode
-use Rattle.call.specs.declared.record.Arming.{Arming}
 
 -- ---- "Armable: leg 1: 8 Mid-call, 9 Disconnect, 10 Abandon, 50 Moved. Leg 2: 4 Route failure, 5 Busy, 6 No answer, 7 Answer, 9 Disconnect, 19 Seized."
 -- (O_Mid_Call, O_Disconnect, O_Abandon, O_Change_Of_Position; Route_Select_Failure, O_Busy, O_No_Answer, O_Answer, O_Disconnect, O_Term_Seized)

@@ -6,15 +6,11 @@ use lib.Dec.{leb, ltb, eqb}
 use Rattle.forms.specs.Bytes.{within}
 use Rattle.forms.specs.Fields.{nature, digitCount, isDigit}
 use Rattle.forms.specs.Units.{clockEnd, isPeriod, isTimer}
-use Rattle.forms.specs.declared.units.Tenths.{Tenths}
+use Rattle.call.specs.Types.{Tenths, Charge, Hold, Number, Record}
 use Rattle.call.specs.declared.points.Role.the-variants.{Moved}
-use Rattle.call.specs.declared.record.Charge.{Charge}
 use Rattle.call.specs.declared.record.Charge.the-variants as charge
 use Rattle.call.specs.declared.record.Mode.the-variants as mode
-use Rattle.call.specs.declared.record.Hold.{Hold}
 use Rattle.call.specs.declared.record.Hold.the-variants as hold
-use Rattle.call.specs.declared.record.Number.{Number}
-use Rattle.call.specs.declared.record.Record.{Record}
 use Rattle.call.specs.Points.{isRole, modeAt}
 use Rattle.call.specs.Relationship.{isMode}
 

@@ -3,21 +3,13 @@ use Prim.Native.Nat.{ℕ}
 use mathlib.Core.List.{List, []}
 use lib.ListN.{replicate}
 use Rattle.forms.specs.Item.{pad}
-use Rattle.forms.specs.declared.item.Leg.{Leg}
+use Rattle.call.specs.Types.{Leg, Tenths, Seconds, LegState, Stage, Hold, Arming, Number, Record}
 use Rattle.forms.specs.declared.item.Leg.the-variants.{One, Two}
 use Rattle.forms.specs.declared.profile.Handling.the-variants.{Continue}
-use Rattle.forms.specs.declared.units.Tenths.{Tenths}
-use Rattle.forms.specs.declared.units.Seconds.{Seconds}
 use Rattle.call.specs.declared.record.Presence.the-variants.{Absent}
 use Rattle.call.specs.declared.record.Charge.the-variants as charge
-use Rattle.call.specs.declared.record.LegState.{LegState}
-use Rattle.call.specs.declared.record.Stage.{Stage}
 use Rattle.call.specs.declared.record.Stage.the-variants.{Analysing}
-use Rattle.call.specs.declared.record.Hold.{Hold}
 use Rattle.call.specs.declared.record.Hold.the-variants as hold
-use Rattle.call.specs.declared.record.Arming.{Arming}
-use Rattle.call.specs.declared.record.Number.{Number}
-use Rattle.call.specs.declared.record.Record.{Record}
 use Rattle.call.specs.Points.{unarmed}
 use Rattle.call.specs.Charging.{leg}
 

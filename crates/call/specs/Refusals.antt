@@ -5,13 +5,7 @@ use mathlib.Core.List.{List, [], _∷_}
 use lib.Dec.{ltb}
 use Rattle.forms.specs.Item.{itemInRange}
 use Rattle.forms.specs.Profile.{profileOf, isProfile}
-use Rattle.forms.specs.declared.item.Leg.{Leg}
-use Rattle.forms.specs.declared.item.Item.{Item}
-use Rattle.forms.specs.declared.item.Entry.{Entry}
-use Rattle.forms.specs.declared.units.Tenths.{Tenths}
-use Rattle.call.specs.declared.points.Role.{Role}
-use Rattle.call.specs.declared.record.Record.{Record}
-use Rattle.call.specs.declared.step.Kind.{Kind}
+use Rattle.call.specs.Types.{Leg, Item, Entry, Tenths, Role, Record, Kind}
 use Rattle.call.specs.declared.step.Kind.the-variants as kind
 use Rattle.call.specs.Charging.{isPresent, isPending, isStarted, isBeforeEnd}
 use Rattle.call.specs.Relationship.{isHeld, relationshipOf, isControl, isRelated}

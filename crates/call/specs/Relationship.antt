@@ -3,13 +3,9 @@ use Prim.Native.Nat.{ℕ}
 use mathlib.Core.Bool.{Bool, true, false, cond, _||_}
 use mathlib.Core.List.{List, [], _∷_}
 use lib.Dec.{eqb}
-use Rattle.call.specs.declared.record.Mode.{Mode}
+use Rattle.call.specs.Types.{Mode, Arming, Hold, Record, Relationship}
 use Rattle.call.specs.declared.record.Mode.the-variants as mode
-use Rattle.call.specs.declared.record.Arming.{Arming}
-use Rattle.call.specs.declared.record.Hold.{Hold}
 use Rattle.call.specs.declared.record.Hold.the-variants as hold
-use Rattle.call.specs.declared.record.Record.{Record}
-use Rattle.call.specs.declared.answers.Relationship.{Relationship}
 use Rattle.call.specs.declared.answers.Relationship.the-variants as relationship
 use Rattle.call.specs.Charging.{isPending}
 

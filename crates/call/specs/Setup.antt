@@ -3,22 +3,14 @@ use Prim.Native.Nat.{ℕ}
 use mathlib.Core.Bool.{Bool, true, false}
 use mathlib.Core.List.{List, [], _∷_}
 use Rattle.forms.specs.Profile.{profileOf}
-use Rattle.forms.specs.declared.item.Item.{Item}
-use Rattle.forms.specs.declared.profile.Handling.{Handling}
-use Rattle.forms.specs.declared.units.Tenths.{Tenths}
-use Rattle.forms.specs.declared.units.Seconds.{Seconds}
+use Rattle.call.specs.Types.{Item, Handling, Tenths, Seconds, Hold, Number, Record, Stepped, Kind}
 use Rattle.call.specs.declared.record.Stage.the-variants.{Analysing}
 use Rattle.call.specs.declared.record.Presence.the-variants.{Present}
 use Rattle.call.specs.declared.record.Charge.the-variants as charge
-use Rattle.call.specs.declared.record.Hold.{Hold}
 use Rattle.call.specs.declared.record.Hold.the-variants as hold
-use Rattle.call.specs.declared.record.Number.{Number}
-use Rattle.call.specs.declared.record.Record.{Record}
 use Rattle.call.specs.declared.answers.Report.the-variants as report
 use Rattle.call.specs.declared.answers.ChargeReport.the-variants as due
 use Rattle.call.specs.declared.answers.Deadline.the-variants as deadline
-use Rattle.call.specs.declared.answers.Stepped.{Stepped}
-use Rattle.call.specs.declared.step.Kind.{Kind}
 use Rattle.call.specs.declared.step.Kind.the-variants as kind
 use Rattle.call.specs.Charging.{leg}
 use Rattle.call.specs.Record.{noArmings, noTimer, numberOf, blank}

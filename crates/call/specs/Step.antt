@@ -4,16 +4,10 @@ use mathlib.Core.Bool.{Bool}
 use mathlib.Core.List.{List, [], _∷_}
 use lib.Dec.{eqb}
 use Rattle.forms.specs.Item.{formOf}
-use Rattle.forms.specs.declared.item.Body.{Body}
+use Rattle.call.specs.Types.{Body, Item, Tenths, Stage, Record, Stepped, Kind}
 use Rattle.forms.specs.declared.item.Body.the-variants as body
-use Rattle.forms.specs.declared.item.Item.{Item}
-use Rattle.forms.specs.declared.units.Tenths.{Tenths}
 use Rattle.call.specs.declared.points.Role.the-variants.{MidCall, Moved, RouteFailure, Busy, NoAnswer, Answer, Seized}
-use Rattle.call.specs.declared.record.Stage.{Stage}
-use Rattle.call.specs.declared.record.Record.{Record}
 use Rattle.call.specs.declared.answers.Report.the-variants as report
-use Rattle.call.specs.declared.answers.Stepped.{Stepped}
-use Rattle.call.specs.declared.step.Kind.{Kind}
 use Rattle.call.specs.declared.step.Kind.the-variants as kind
 use Rattle.call.specs.Record.{numberOf, timed}
 use Rattle.call.specs.Answers.{firstOf, quietly, ended, refused, guarded}

@@ -6,7 +6,7 @@ use lib.Dec.{eqb}
 use lib.ListN.{length}
 use Rattle.forms.specs.Bytes.{contains}
 use Rattle.forms.specs.Profile.{Profile, someMatches}
-use Rattle.forms.specs.declared.profile.Criterion.{Criterion}
+use Rattle.call.specs.Types.{Criterion}
 use Rattle.forms.specs.declared.profile.Criterion.the-variants.{Absent, Enabling, Inhibiting}
 
 -- a criterion that is present: enabling wants what it asks for, inhibiting wants it not to be

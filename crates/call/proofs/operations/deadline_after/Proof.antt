@@ -1,7 +1,7 @@
 use mathlib.Core.Path.{ap}
 use native.Mathlib.Omega.{arith}
 use borrow.Author.Needs.{needs}
-use Rattle.forms.specs.declared.units.Tenths.{Tenths}
+use Rattle.call.specs.Types.{Tenths}
 use Rattle.call.proofs.operations.deadline_after.Statement.{statement}
 use Rattle.call.proofs.operations.deadline_after.Tie as tie
 

@@ -4,8 +4,7 @@ use mathlib.Core.List.{List, [], _∷_}
 use denote.Enum.Declared.{tagOf}
 use types.Run.{OneOf, miss}
 use borrow.Author.Needs.{needs}
-use Rattle.forms.specs.declared.units.Tenths.{Tenths}
-use Rattle.call.specs.declared.step.Kind.{Kind}
+use Rattle.call.specs.Types.{Tenths, Kind}
 use Rattle.call.specs.declared.step.Kind.the-variants as kind
 use Rattle.call.specs.Answers.{refused}
 use Rattle.call.specs.Record.{blank}
