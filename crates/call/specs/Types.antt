@@ -18,8 +18,9 @@ pub use Rattle.call.specs.declared.answers.Report.{Report}
 pub use Rattle.call.specs.declared.answers.Reports.{Reports}
 pub use Rattle.call.specs.declared.answers.Stepped.{Stepped}
 pub use Rattle.call.specs.declared.points.Named.{Named}
-pub use Rattle.call.specs.declared.points.Pair.{Pair}
+pub use Rattle.call.specs.declared.points.Point.{Point}
 pub use Rattle.call.specs.declared.points.Role.{Role}
+pub use Rattle.call.specs.declared.points.Span.{Span}
 pub use Rattle.call.specs.declared.record.Arming.{Arming}
 pub use Rattle.call.specs.declared.record.Charge.{Charge}
 pub use Rattle.call.specs.declared.record.Hold.{Hold}

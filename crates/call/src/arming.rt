@@ -63,7 +63,9 @@ fn can_occur(r: Record, p: Role) -> bool
     let s = r.stage;
     let leg1 = r.leg1;
     let leg2 = r.leg2;
-    charging::is_present(leg1) & (!charging::is_present(leg2) | points::occurs_from(p, s))
+    let row = points::point_of(p);
+    let occurs = row.occurs;
+    charging::is_present(leg1) & (!charging::is_present(leg2) | points::is_within(occurs, s))
 }
 
 // Refusal 12, of one entry.

@@ -1,9 +1,11 @@
 // A leg's pending charge, its clock and its report (document 01, Charging).
 ghost use mathlib.Core.Path.{_≡_};
+ghost use mathlib.Core.Bool.{not, cond};
 ghost use Prim.Native.Nat.{_+_, _-_, min};
 ghost use lib.Dec.{ltb};
 ghost use Rattle.call.specs.Charging.{isPresent, isPending, answered, granted, isStarted, isBeforeEnd, reportOf};
-use crate::answers::ChargeReport;
+use crate::answers;
+use crate::answers::*;
 use crate::points;
 use crate::record::*;
 use forms::units::Tenths;
@@ -50,16 +52,6 @@ pub(crate) fn grant(s: Stage, period: Tenths, t: Tenths) -> Charge
     }
 }
 
-pub(crate) fn is_started(c: Charge) -> bool
-    ensures { λ r. ⌜ r ≡ isStarted c ⌝ }
-{
-    match c {
-        Charge::None => false,
-        Charge::Waiting(_) => false,
-        Charge::Running(_, _) => true,
-    }
-}
-
 // Before start + period. The sum is not taken: it need not fit.
 fn is_before(t: Tenths, start: Tenths, period: Tenths) -> bool
     ensures { λ r. ⌜ r ≡ ltb (t .0) (start .0 + period .0) ⌝ }
@@ -71,13 +63,18 @@ fn is_before(t: Tenths, start: Tenths, period: Tenths) -> bool
     }
 }
 
-pub(crate) fn is_before_end(c: Charge, t: Tenths) -> bool
-    ensures { λ r. ⌜ r ≡ isBeforeEnd c t ⌝ }
+// Refusals 12 and 14 of Period over.
+pub(crate) fn period_check(c: Charge, t: Tenths) -> Check
+    ensures { λ r. ⌜ r ≡ cond (not (isStarted c)) (Check.Fail 12) (cond (isBeforeEnd c t) (Check.Fail 14) Check.Pass) ⌝ }
 {
     match c {
-        Charge::None => false,
-        Charge::Waiting(_) => false,
-        Charge::Running(period, start) => is_before(t, start, period),
+        Charge::None => Check::Fail(12),
+        Charge::Waiting(_) => Check::Fail(12),
+        Charge::Running(period, start) => answers::refuse_if(
+            is_before(t, start, period),
+            14,
+            Check::Pass,
+        ),
     }
 }
 

@@ -1,6 +1,6 @@
 // Events: a role is met (document 01, One call).
 ghost use mathlib.Core.Path.{_≡_};
-ghost use Rattle.call.specs.Events.{clearOf, isClearOf1, canMeet, eventReport, holdAfter, leaves, legAfter, chargeAfter, metRecord, endsCall, met};
+ghost use Rattle.call.specs.Events.{clearOf, isClearOf1, canMeet, eventReport, holdAfter, legAfter, chargeAfter, metRecord, endsCall, met};
 use crate::answers;
 use crate::answers::*;
 use crate::charging;
@@ -38,10 +38,10 @@ pub(crate) fn can_meet(r: Record, p: Role) -> bool
     ensures { λ b. ⌜ b ≡ canMeet r p ⌝ }
 {
     let s = r.stage;
-    let pair = points::pair_of(p);
-    let leg = pair.leg;
-    let l = record::leg_at(leg, r);
-    points::met_in(p, s) & charging::is_present(l)
+    let row = points::point_of(p);
+    let met = row.met;
+    let leg = row.leg;
+    points::is_within(met, s) & charging::is_present(record::leg_at(leg, r))
 }
 
 fn event_report(p: Role, m: Mode) -> Report
@@ -64,18 +64,12 @@ fn hold_after(p: Role, m: Mode) -> Hold
     }
 }
 
-fn does_leave(p: Role, leg: Leg) -> bool
-    ensures { λ r. ⌜ r ≡ leaves p leg ⌝ }
-{
-    points::loses_leg(p) & points::is_on_leg(p, leg)
-}
-
 fn leg_after(p: Role, leg: Leg, t: Tenths, l: LegState) -> LegState
     ensures { λ r. ⌜ r ≡ legAfter p leg t l ⌝ }
 {
     let presence = l.presence;
     let c = l.charge;
-    if does_leave(p, leg) {
+    if points::takes_leg(p, leg) {
         return LegState {
             presence: Presence::Absent,
             charge: Charge::None,
@@ -94,7 +88,7 @@ fn charge_after(p: Role, leg: Leg, t: Tenths, l: LegState) -> ChargeReport
     ensures { λ r. ⌜ r ≡ chargeAfter p leg t l ⌝ }
 {
     let c = l.charge;
-    if does_leave(p, leg) {
+    if points::takes_leg(p, leg) {
         charging::report_of(t, c)
     } else {
         ChargeReport::None
@@ -122,10 +116,11 @@ fn met_record(r: Record, p: Role, m: Mode, t: Tenths) -> Record
 fn ends_call(p: Role, m: Mode) -> bool
     ensures { λ r. ⌜ r ≡ endsCall p m ⌝ }
 {
+    let row = points::point_of(p);
     match m {
-        Mode::None => points::loses_leg(p),
+        Mode::None => row.leaves,
         Mode::Interrupted => false,
-        Mode::Notify => points::loses_leg(p),
+        Mode::Notify => row.leaves,
     }
 }
 

@@ -1,11 +1,12 @@
 // The roles: the armable pairs of leg and detection point, and the rules that go by them (document 01, One call).
 ghost use mathlib.Core.Path.{_≡_};
+ghost use mathlib.Core.Bool.{_&&_};
 ghost use mathlib.Core.List.{[], _∷_};
 ghost use Prim.Native.Nat.{_<_};
 ghost use lib.Dec.{eqb};
 ghost use Rattle.forms.specs.Fields.{legNumber};
 ghost use Rattle.forms.specs.declared.item.Leg.the-variants as leg;
-ghost use Rattle.call.specs.Points.{pairOf, roles, placeOf, isRole, isOnLeg, roleOf, isAnalysing, isActive, metIn, occursFrom, onLeg, disarms, losesLeg, stageAfter, modeAt, disarmed};
+ghost use Rattle.call.specs.Points.{isAnalysing, isActive, spans, pointOf, roles, placeOf, isRole, isOnLeg, losesLeg, roleOf, onLeg, disarms, stageAfter, modeAt, disarmed};
 use crate::record::*;
 use forms::item::Leg;
 
@@ -22,10 +23,22 @@ pub enum Role {
     Seized,
 }
 
-// The leg and the number of a detection point.
-pub struct Pair {
+// A span of stages.
+pub enum Span {
+    Analysing,
+    BeforeActive,
+    Active,
+    PastAnalysing,
+    Always,
+}
+
+// A row of the table of roles: the leg and the number of the detection point, the stages at which it can be met and from which it can still occur, and whether its leg becomes absent when it is met.
+pub struct Point {
     pub leg: Leg,
-    pub point: u8,
+    pub number: u8,
+    pub met: Span,
+    pub occurs: Span,
+    pub leaves: bool,
 }
 
 // The role that two numbers name.
@@ -34,51 +47,33 @@ pub(crate) enum Named {
     Known(Role),
 }
 
-// The one table between roles and numbers.
-pub fn pair_of(p: Role) -> Pair
-    ensures { λ r. ⌜ r ≡ pairOf p ⌝ }
+fn point_at(leg: Leg, number: u8, met: Span, occurs: Span, leaves: bool) -> Point
+    ensures { λ r. ⌜ r ≡ record { leg = leg; number = number; met = met; occurs = occurs; leaves = leaves } ⌝ }
+{
+    Point {
+        leg,
+        number,
+        met,
+        occurs,
+        leaves,
+    }
+}
+
+// The table of roles.
+pub fn point_of(p: Role) -> Point
+    ensures { λ r. ⌜ r ≡ pointOf p ⌝ }
 {
     match p {
-        Role::MidCall => Pair {
-            leg: Leg::One,
-            point: 8,
-        },
-        Role::Disconnect1 => Pair {
-            leg: Leg::One,
-            point: 9,
-        },
-        Role::Abandon => Pair {
-            leg: Leg::One,
-            point: 10,
-        },
-        Role::Moved => Pair {
-            leg: Leg::One,
-            point: 50,
-        },
-        Role::RouteFailure => Pair {
-            leg: Leg::Two,
-            point: 4,
-        },
-        Role::Busy => Pair {
-            leg: Leg::Two,
-            point: 5,
-        },
-        Role::NoAnswer => Pair {
-            leg: Leg::Two,
-            point: 6,
-        },
-        Role::Answer => Pair {
-            leg: Leg::Two,
-            point: 7,
-        },
-        Role::Disconnect2 => Pair {
-            leg: Leg::Two,
-            point: 9,
-        },
-        Role::Seized => Pair {
-            leg: Leg::Two,
-            point: 19,
-        },
+        Role::MidCall => point_at(Leg::One, 8, Span::Active, Span::Always, false),
+        Role::Disconnect1 => point_at(Leg::One, 9, Span::Active, Span::Always, true),
+        Role::Abandon => point_at(Leg::One, 10, Span::BeforeActive, Span::BeforeActive, true),
+        Role::Moved => point_at(Leg::One, 50, Span::PastAnalysing, Span::Always, false),
+        Role::RouteFailure => point_at(Leg::Two, 4, Span::Analysing, Span::Analysing, true),
+        Role::Busy => point_at(Leg::Two, 5, Span::BeforeActive, Span::BeforeActive, true),
+        Role::NoAnswer => point_at(Leg::Two, 6, Span::BeforeActive, Span::BeforeActive, true),
+        Role::Answer => point_at(Leg::Two, 7, Span::BeforeActive, Span::BeforeActive, false),
+        Role::Disconnect2 => point_at(Leg::Two, 9, Span::Active, Span::Always, true),
+        Role::Seized => point_at(Leg::Two, 19, Span::Analysing, Span::Analysing, false),
     }
 }
 
@@ -121,12 +116,13 @@ fn is_leg(a: Leg, b: Leg) -> bool
     }
 }
 
-pub(crate) fn is_on_leg(p: Role, leg: Leg) -> bool
-    ensures { λ r. ⌜ r ≡ isOnLeg p leg ⌝ }
+// The leg becomes absent when the role is met.
+pub(crate) fn takes_leg(p: Role, leg: Leg) -> bool
+    ensures { λ r. ⌜ r ≡ (losesLeg p && isOnLeg p leg) ⌝ }
 {
-    let pair = pair_of(p);
-    let own = pair.leg;
-    is_leg(own, leg)
+    let row = point_of(p);
+    let own = row.leg;
+    row.leaves & is_leg(own, leg)
 }
 
 fn role_on_1(point: u8) -> Named
@@ -185,43 +181,17 @@ pub(crate) fn is_active(s: Stage) -> bool
     }
 }
 
-// The stages at which a role can be met.
-pub(crate) fn met_in(p: Role, s: Stage) -> bool
-    ensures { λ r. ⌜ r ≡ metIn p s ⌝ }
+pub(crate) fn is_within(x: Span, s: Stage) -> bool
+    ensures { λ r. ⌜ r ≡ spans x s ⌝ }
 {
     let analysing = is_analysing(s);
     let active = is_active(s);
-    match p {
-        Role::RouteFailure => analysing,
-        Role::Seized => analysing,
-        Role::Busy => !active,
-        Role::NoAnswer => !active,
-        Role::Answer => !active,
-        Role::MidCall => active,
-        Role::Moved => !analysing,
-        Role::Abandon => !active,
-        Role::Disconnect1 => active,
-        Role::Disconnect2 => active,
-    }
-}
-
-// The stages from which a role can still occur.
-pub(crate) fn occurs_from(p: Role, s: Stage) -> bool
-    ensures { λ r. ⌜ r ≡ occursFrom p s ⌝ }
-{
-    let analysing = is_analysing(s);
-    let active = is_active(s);
-    match p {
-        Role::RouteFailure => analysing,
-        Role::Seized => analysing,
-        Role::Busy => !active,
-        Role::NoAnswer => !active,
-        Role::Answer => !active,
-        Role::Abandon => !active,
-        Role::MidCall => true,
-        Role::Disconnect1 => true,
-        Role::Moved => true,
-        Role::Disconnect2 => true,
+    match x {
+        Span::Analysing => analysing,
+        Span::BeforeActive => !active,
+        Span::Active => active,
+        Span::PastAnalysing => !analysing,
+        Span::Always => true,
     }
 }
 
@@ -289,24 +259,6 @@ pub(crate) fn disarm(p: Role, a: [Arming; 10]) -> [Arming; 10]
         Role::Moved => without(Role::Moved, a),
         Role::Abandon => without_leg1(a),
         Role::Disconnect1 => without_leg1(a),
-    }
-}
-
-// Its leg becomes absent when the role is met.
-pub(crate) fn loses_leg(p: Role) -> bool
-    ensures { λ r. ⌜ r ≡ losesLeg p ⌝ }
-{
-    match p {
-        Role::RouteFailure => true,
-        Role::Busy => true,
-        Role::NoAnswer => true,
-        Role::Disconnect2 => true,
-        Role::Answer => false,
-        Role::MidCall => false,
-        Role::Seized => false,
-        Role::Moved => false,
-        Role::Abandon => true,
-        Role::Disconnect1 => true,
     }
 }
 

@@ -37,9 +37,7 @@ fn period_refusal(r: Record, leg: Leg, t: Tenths) -> Check
     let last = r.last;
     let l = record::leg_at(leg, r);
     let charge = l.charge;
-    let ended = answers::refuse_if(charging::is_before_end(charge, t), 14, Check::Pass);
-    let started = answers::refuse_if(!charging::is_started(charge), 12, ended);
-    answers::refuse_if(t.0 < last.0, 7, started)
+    answers::refuse_if(t.0 < last.0, 7, charging::period_check(charge, t))
 }
 
 // Rows 7 and 8, and those after them: an operation that needs control.

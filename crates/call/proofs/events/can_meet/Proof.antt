@@ -6,4 +6,4 @@ pub can-meet-spec : {M : Type 1} → statement M
 can-meet-spec =
     tie.close
     (tie.spec (search needs) (search needs) (search needs) (search needs)
-    (λ c. simp (c .is-present .ensures, c .before .met-in .ensures, c .before .before .leg-at .ensures, c .before .before .before .pair-of .ensures)))
+    (λ c. simp (c .is-present .ensures, c .before .leg-at .ensures, c .before .before .is-within .ensures, c .before .before .before .point-of .ensures)))

@@ -7,5 +7,5 @@ pub charge-after-spec : {M : Type 1} → statement M
 charge-after-spec =
     tie.close
     (tie.spec (search needs) (search needs)
-    (λ c. rw (c .report-of .ensures, sym (c .before .before .does-leave .ensures) ∙ c .before .if1 .taken))
-    (λ c. rw (sym (c .before .does-leave .ensures) ∙ c .if1 .left)))
+    (λ c. rw (c .report-of .ensures, sym (c .before .before .takes-leg .ensures) ∙ c .before .if1 .taken))
+    (λ c. rw (sym (c .before .takes-leg .ensures) ∙ c .if1 .left)))

@@ -1,9 +1,0 @@
-use borrow.Author.Needs.{needs}
-use Rattle.call.proofs.points.is_on_leg.Statement.{statement}
-use Rattle.call.proofs.points.is_on_leg.Tie as tie
-
-pub is-on-leg-spec : {M : Type 1} → statement M
-is-on-leg-spec =
-    tie.close
-    (tie.spec (search needs) (search needs)
-    (λ c. simp (c .is-leg .ensures, c .before .pair-of .ensures)))
