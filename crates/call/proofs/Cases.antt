@@ -1,0 +1,204 @@
+-- Computed cases of a call by itself: document 01's listing example, its edges P2 to P10 ('Both sides of each edge') as far as one call shows them, its five slips, and refusals at their order edges.
+-- `runs` is a list of runs and the answer to the last item of each: the one statement over P1 to P10 takes it up.
+use Prim.Native.Nat.{ℕ}
+use mathlib.Core.Path.{_≡_, refl}
+use mathlib.Core.Bool.{Bool, true, false}
+use mathlib.Core.List.{List, [], _∷_, _++_, map, flatten}
+use mathlib.Core.Option.{Option, none}
+use lib.ListN.{length}
+use Rattle.forms.specs.Bytes.{all, contains, leads, same}
+use Rattle.forms.specs.Item.{itemBytes, itemInRange, restAt, bodyFrom, bodyOf, itemOf, isItem, readItem, entryBytes, entryOf}
+use Rattle.forms.specs.Profile.{fieldsOf, profileBytes, profileInRange, numbersAt, numbersEnd, viewAt, profileOf, isProfile, someMatches}
+use Rattle.forms.proofs.Cases.{p2}
+use Rattle.forms.specs.declared.item.Leg.the-variants.{One, Two}
+use Rattle.forms.specs.declared.item.Body.the-variants as B
+use Rattle.call.specs.Types.{Body, Role, Hold, Report, ChargeReport, Deadline, Relationship, Record, Answer}
+use Rattle.call.specs.declared.points.Role.the-variants as P
+use Rattle.call.specs.declared.record.Hold.the-variants as H
+use Rattle.call.specs.declared.answers.Relationship.the-variants as R
+use Rattle.call.specs.declared.answers.Report.the-variants.{None, Trigger, Interrupting, Notification}
+use Rattle.call.specs.declared.answers.ChargeReport.the-variants as C
+use Rattle.call.specs.declared.answers.Deadline.the-variants as D
+use Rattle.call.specs.declared.answers.Answer.the-variants.{Accepted, Refused}
+use Rattle.call.specs.Answers.{reports}
+use Rattle.call.specs.Trigger.{triggers}
+use Rattle.call.specs.Relationship.{someArmed}
+use Rattle.call.specs.Arming.{entriesOf, areGood, arePossible, armedWith}
+use Rattle.call.specs.Events.{met}
+use Rattle.call.specs.Operations.{continued}
+use Rattle.call.specs.Step.{respondOf}
+use Rattle.call.specs.Setup.{openOf}
+use Rattle.call.specs.Alone.{aloneStep}
+
+-- ---- what a case is
+
+-- an item's bytes, and those of the profile (a Setup's)
+pub record Fed : Type 0 where
+  pub item : List ℕ
+  pub profile : List ℕ
+
+-- a run of a call by itself: what it is fed before, the last item, and the answer to that
+pub record Case : Type 0 where
+  pub before : List Fed
+  pub last : Fed
+  pub answer : Answer
+
+-- what is kept after a run, where k is kept at first
+abbrev pub keptBy : Option Record → List Fed → Option Record
+keptBy k [] = k
+keptBy k (f ∷ fs) = keptBy (aloneStep k (f .item) (f .profile) .1) fs
+
+abbrev pub lastAnswer : Case → Answer
+lastAnswer c = aloneStep (keptBy none (c .before)) (c .last .item) (c .last .profile) .0
+
+-- items one after the other, each with its answer: a case for each
+infixr 70 _▸_
+abbrev _▸_ : Fed → Answer → Fed × Answer
+f ▸ a = (f, a)
+
+abbrev along : List Fed → List (Fed × Answer) → List Case
+along before [] = []
+along before (x ∷ xs) = record { before = before; last = x .0; answer = x .1 } ∷ along (before ++ (x .0 ∷ [])) xs
+
+-- ---- items of call 7
+
+-- the listing example's profile; and one that stores 491, enabling. Both have default timer 120
+abbrev plain : List ℕ
+plain = 0x00 ∷ 0x0A ∷ 0x01 ∷ 0x00 ∷ 0x78 ∷ 0x00 ∷ 0x00 ∷ 0x00 ∷ 0x00 ∷ 0x00 ∷ []
+
+abbrev stored491 : List ℕ
+stored491 = 0 ∷ 15 ∷ 1 ∷ 0 ∷ 120 ∷ 1 ∷ 1 ∷ 4 ∷ 3 ∷ 4 ∷ 9 ∷ 1 ∷ 0 ∷ 0 ∷ 0 ∷ []
+
+abbrev itemWith : List ℕ → ℕ → Body → List ℕ → Fed
+itemWith profile t body rest = record { item = itemBytes (record { call = 7; time = record { 0 = t }; body = body }) rest; profile = profile }
+
+abbrev item : ℕ → Body → Fed
+item t body = itemWith plain t body []
+
+-- Continue at 1000
+abbrev go : Fed
+go = item 1000 B.Continue
+
+abbrev setup : List ℕ → List ℕ → Fed
+setup profile digits = itemWith profile 1000 (B.Setup 4 0 false (length digits)) digits
+
+abbrev connect : ℕ → Fed
+connect t = itemWith plain t (B.Connect 4 2) (4 ∷ 6 ∷ [])
+
+abbrev charge2 : ℕ → Fed
+charge2 period = item 1000 (B.ApplyCharging Two (record { 0 = period }))
+
+-- an entry: point, leg, mode, timer
+abbrev entry : ℕ → ℕ → ℕ → ℕ → List ℕ
+entry point leg mode timer = entryBytes (record { point = point; leg = leg; mode = mode; timer = record { 0 = timer } })
+
+abbrev arm : ℕ → List (List ℕ) → Fed
+arm t es = itemWith plain t (B.RequestReport (length es)) (flatten es)
+
+-- ---- answers, as the listing shows them
+
+abbrev ok : Relationship → Hold → Report → ChargeReport → Deadline → Bool → Answer
+ok relationship hold event charge deadline over =
+    Accepted (record { relationship = relationship; hold = hold; reports = reports event C.None charge; deadline = deadline; over = over })
+
+-- "ok control 2 r2/1", "ok control 2", "ok control 6 r6/2"
+abbrev says : Relationship → Hold → Report → Answer
+says relationship hold event = ok relationship hold event C.None D.None false
+
+abbrev triggered : Answer
+triggered = says R.Control H.Trigger Trigger
+
+abbrev at2 : Answer
+at2 = says R.Control H.Trigger None
+
+abbrev interrupts : Role → Answer
+interrupts p = says R.Control (H.At p) (Interrupting p)
+
+-- "ok control - d1300"
+abbrev routes : Relationship → ℕ → Answer
+routes relationship t = ok relationship H.None None C.None (D.At (record { 0 = t })) false
+
+-- "ok none - c2=600", "ok none - c2=123 over"; "ok none - n10/1 over"
+abbrev bills2 : ℕ → Bool → Answer
+bills2 n over = ok R.None H.None None (C.Elapsed (record { 0 = n })) D.None over
+
+abbrev ends : Report → Answer
+ends event = ok R.None H.None event C.None D.None true
+
+-- ---- the runs
+
+abbrev held : List Fed
+held = setup plain (4 ∷ 9 ∷ 1 ∷ 5 ∷ []) ∷ []
+
+-- period 600 on leg 2; answered at 5000 (P1)
+abbrev granted : List Fed
+granted = held ++ (charge2 600 ∷ go ∷ [])
+
+abbrev answered : List Fed
+answered = granted ++ (item 5000 B.Answer ∷ [])
+
+abbrev pub runs : List Case
+runs =
+    -- the listing; line 2 is P2, line 3 is P3
+    along []
+    (setup plain (4 ∷ 9 ∷ 1 ∷ 5 ∷ []) ▸ triggered
+    ∷ record { item = p2; profile = plain } ▸ at2
+    ∷ go ▸ routes R.Control 1300
+    ∷ item 1300 B.NoAnswer ▸ interrupts P.NoAnswer
+    ∷ item 1310 B.Release ▸ ends None
+    ∷ item 1310 B.Continue ▸ Refused 4
+    ∷ [])
+    -- P3 with no kept timer: the default
+    ++ along held (go ▸ routes R.None 2200 ∷ [])
+    -- P4 Period over at 5599 is 14, at 5600 reports 600
+    ++ along answered (item 5599 (B.PeriodOver Two) ▸ Refused 14 ∷ item 5600 (B.PeriodOver Two) ▸ bills2 600 false ∷ [])
+    -- P5 Clear of leg 2 at 5123 reports 123, at 5700 reports 600
+    ++ along answered (item 5123 (B.Clear Two 16) ▸ bills2 123 true ∷ [])
+    ++ along answered (item 5700 (B.Clear Two 16) ▸ bills2 600 true ∷ [])
+    -- P6 stored 491 matches 4915 and 491, not 49
+    ++ along [] (setup stored491 (4 ∷ 9 ∷ 1 ∷ 5 ∷ []) ▸ triggered ∷ [])
+    ++ along [] (setup stored491 (4 ∷ 9 ∷ 1 ∷ []) ▸ triggered ∷ [])
+    ++ along [] (setup stored491 (4 ∷ 9 ∷ []) ▸ routes R.None 2200 ∷ [])
+    -- P7 period 864000 accepted, 864001 and 0 malformed
+    ++ along held (charge2 864001 ▸ Refused 1 ∷ charge2 0 ▸ Refused 1 ∷ charge2 864000 ▸ at2 ∷ [])
+    -- P8, what one call shows: no open call is 4, a Setup for an open call 5
+    ++ along [] (item 1000 B.Answer ▸ Refused 4 ∷ setup plain (4 ∷ []) ▸ triggered ∷ setup plain (4 ∷ []) ▸ Refused 5 ∷ [])
+    -- P9 Busy leaves Abandon armed: Clear of leg 1 notifies it
+    ++ along held
+    (arm 1000 (entry 5 2 0 0 ∷ entry 10 1 1 0 ∷ []) ▸ at2 ∷ go ▸ routes R.Control 2200
+    ∷ item 2000 (B.Busy 17) ▸ interrupts P.Busy ∷ item 2010 (B.Clear One 16) ▸ ends (Notification P.Abandon) ∷ [])
+    -- P10 timer 2047 accepted, 2048 is 11
+    ++ along held (arm 1000 (entry 6 2 0 2048 ∷ []) ▸ Refused 11 ∷ arm 1000 (entry 6 2 0 2047 ∷ []) ▸ at2 ∷ go ▸ routes R.Control 21470 ∷ [])
+    -- slip, a charge clock started at the grant: none runs before the Answer
+    ++ along granted (item 5600 (B.PeriodOver Two) ▸ Refused 12 ∷ [])
+    -- slip, an unarmed Answer that disarms nothing
+    ++ along held
+    (arm 1000 (entry 4 2 0 0 ∷ entry 5 2 0 0 ∷ entry 6 2 0 0 ∷ entry 10 1 0 0 ∷ []) ▸ at2 ∷ go ▸ routes R.Control 2200
+    ∷ item 5000 B.Answer ▸ says R.None H.None None ∷ [])
+    -- slip, a relationship that outlives the last armed point
+    ++ along held
+    (arm 1000 (entry 19 2 1 0 ∷ []) ▸ at2 ∷ go ▸ routes R.Monitor 2200
+    ∷ item 1100 B.Seized ▸ says R.None H.None (Notification P.Seized) ∷ item 1100 B.ActivityTest ▸ Refused 8 ∷ [])
+    -- slip, a TNRy reused on the follow-on call
+    ++ along held
+    (arm 1000 (entry 6 2 0 30 ∷ []) ▸ at2 ∷ connect 1000 ▸ routes R.Control 1300
+    ∷ item 1300 B.NoAnswer ▸ interrupts P.NoAnswer ∷ connect 1310 ▸ routes R.None 2510 ∷ [])
+    -- slip, a half-applied arming list
+    ++ along held (arm 1000 (entry 6 2 0 30 ∷ entry 5 2 3 0 ∷ []) ▸ Refused 11 ∷ go ▸ routes R.None 2200 ∷ [])
+    -- 2 before 5; 9 before 12; 7 before 8; 8 before 10
+    ++ along held
+    (setup [] (4 ∷ []) ▸ Refused 2 ∷ item 1000 (B.MidCall 1) ▸ Refused 9 ∷ go ▸ routes R.None 2200
+    ∷ item 1000 (B.MidCall 1) ▸ Refused 12 ∷ item 999 B.Continue ▸ Refused 7 ∷ go ▸ Refused 8 ∷ [])
+    -- 10 before 12; 11 before 12, for a bad entry after an impossible one
+    ++ along held
+    (arm 1000 (entry 7 2 0 0 ∷ []) ▸ at2 ∷ go ▸ routes R.Control 2200 ∷ connect 1000 ▸ Refused 10
+    ∷ item 5000 B.Answer ▸ interrupts P.Answer ∷ connect 5000 ▸ Refused 12
+    ∷ arm 5000 (entry 5 2 0 0 ∷ entry 9 3 0 0 ∷ []) ▸ Refused 11 ∷ arm 5000 (entry 5 2 0 0 ∷ []) ▸ Refused 12 ∷ [])
+    -- 12 before 13: leg 1 absent, a charge pending on leg 2
+    ++ along held
+    (arm 1000 (entry 10 1 0 0 ∷ []) ▸ at2 ∷ charge2 600 ▸ at2 ∷ charge2 600 ▸ Refused 13
+    ∷ item 1000 (B.Clear One 16) ▸ interrupts P.Abandon ∷ charge2 600 ▸ Refused 12 ∷ [])
+
+pub cases : map lastAnswer runs ≡ map (λ (c : Case). c .answer) runs
+unfolding flatten all contains leads same itemBytes itemInRange restAt bodyFrom bodyOf itemOf isItem readItem entryOf fieldsOf profileBytes profileInRange numbersAt numbersEnd viewAt profileOf isProfile someMatches triggers someArmed entriesOf areGood arePossible armedWith met continued respondOf openOf aloneStep
+cases = refl
