@@ -1,6 +1,6 @@
 // Events: a role is met (document 01, One call).
 ghost use mathlib.Core.Path.{_≡_};
-ghost use Rattle.call.specs.Events.{clearOf, isClearOf1, canMeet, eventReport, holdAfter, legAfter, chargeAfter, metRecord, endsCall, met};
+ghost use Rattle.call.specs.Events.{clearOf, isClearOf1, canMeet, eventReport, holdAfter, legAfter, chargeAfter, endsCall, met};
 use crate::answers;
 use crate::answers::*;
 use crate::charging;
@@ -44,103 +44,101 @@ pub(crate) fn can_meet(r: Record, p: Role) -> bool
     points::is_within(met, s) & charging::is_present(record::leg_at(leg, r))
 }
 
-fn event_report(p: Role, m: Mode) -> Report
-    ensures { λ r. ⌜ r ≡ eventReport p m ⌝ }
-{
-    match m {
-        Mode::None => Report::None,
-        Mode::Interrupted => Report::Interrupting(p),
-        Mode::Notify => Report::Notification(p),
-    }
+// What becomes of a leg, and the report of its charge.
+struct LegAfter {
+    state: LegState,
+    report: ChargeReport,
 }
 
-fn hold_after(p: Role, m: Mode) -> Hold
-    ensures { λ r. ⌜ r ≡ holdAfter p m ⌝ }
-{
-    match m {
-        Mode::None => Hold::None,
-        Mode::Interrupted => Hold::At(p),
-        Mode::Notify => Hold::None,
-    }
-}
-
-fn leg_after(p: Role, leg: Leg, t: Tenths, l: LegState) -> LegState
-    ensures { λ r. ⌜ r ≡ legAfter p leg t l ⌝ }
+fn leg_after(p: Role, leg: Leg, t: Tenths, l: LegState) -> LegAfter
+    ensures { λ r. ⌜ r ≡ record { state = legAfter p leg t l; report = chargeAfter p leg t l } ⌝ }
 {
     let presence = l.presence;
     let c = l.charge;
     if points::takes_leg(p, leg) {
-        return LegState {
-            presence: Presence::Absent,
-            charge: Charge::None,
+        return LegAfter {
+            state: LegState {
+                presence: Presence::Absent,
+                charge: Charge::None,
+            },
+            report: charging::report_of(t, c),
         };
     }
     if points::is_role(p, Role::Answer) {
-        return LegState {
-            presence,
-            charge: charging::answer(t, c),
+        return LegAfter {
+            state: LegState {
+                presence,
+                charge: charging::answer(t, c),
+            },
+            report: ChargeReport::None,
         };
     }
-    l
-}
-
-fn charge_after(p: Role, leg: Leg, t: Tenths, l: LegState) -> ChargeReport
-    ensures { λ r. ⌜ r ≡ chargeAfter p leg t l ⌝ }
-{
-    let c = l.charge;
-    if points::takes_leg(p, leg) {
-        charging::report_of(t, c)
-    } else {
-        ChargeReport::None
+    LegAfter {
+        state: l,
+        report: ChargeReport::None,
     }
 }
 
-fn met_record(r: Record, p: Role, m: Mode, t: Tenths) -> Record
-    ensures { λ s. ⌜ s ≡ metRecord r p m t ⌝ }
-{
-    let stage = r.stage;
-    let l1 = r.leg1;
-    let l2 = r.leg2;
-    let a = r.armings;
-    let leg1 = leg_after(p, Leg::One, t, l1);
-    let leg2 = leg_after(p, Leg::Two, t, l2);
-    let armings = points::disarm(p, a);
-    let mut s = record::place(r, points::stage_after(p, stage), hold_after(p, m));
-    s.leg1 = leg1;
-    s.leg2 = leg2;
-    s.last = t;
-    s.armings = armings;
-    s
+// What a met role does by its mode: the report, the hold, and whether the call is over.
+struct ByMode {
+    event: Report,
+    hold: Hold,
+    over: bool,
 }
 
-fn ends_call(p: Role, m: Mode) -> bool
-    ensures { λ r. ⌜ r ≡ endsCall p m ⌝ }
+fn by_mode(p: Role, m: Mode) -> ByMode
+    ensures { λ r. ⌜ r ≡ record { event = eventReport p m; hold = holdAfter p m; over = endsCall p m } ⌝ }
 {
     let row = points::point_of(p);
     match m {
-        Mode::None => row.leaves,
-        Mode::Interrupted => false,
-        Mode::Notify => row.leaves,
+        Mode::None => ByMode {
+            event: Report::None,
+            hold: Hold::None,
+            over: row.leaves,
+        },
+        Mode::Interrupted => ByMode {
+            event: Report::Interrupting(p),
+            hold: Hold::At(p),
+            over: false,
+        },
+        Mode::Notify => ByMode {
+            event: Report::Notification(p),
+            hold: Hold::None,
+            over: row.leaves,
+        },
     }
 }
 
 pub(crate) fn meet(r: Record, p: Role, t: Tenths) -> Stepped
     ensures { λ s. ⌜ s ≡ met r p t ⌝ }
 {
+    let stage = r.stage;
     let l1 = r.leg1;
     let l2 = r.leg2;
     let a = r.armings;
     let m = points::mode_at(p, a);
-    let event = event_report(p, m);
-    if ends_call(p, m) {
+    let by = by_mode(p, m);
+    let event = by.event;
+    if by.over {
         return answers::end(r, event, t);
     }
-    let charge1 = charge_after(p, Leg::One, t, l1);
-    let charge2 = charge_after(p, Leg::Two, t, l2);
+    let hold = by.hold;
+    let one = leg_after(p, Leg::One, t, l1);
+    let two = leg_after(p, Leg::Two, t, l2);
+    let leg1 = one.state;
+    let leg2 = two.state;
+    let charge1 = one.report;
+    let charge2 = two.report;
+    let armings = points::disarm(p, a);
+    let mut next = record::place(r, points::stage_after(p, stage), hold);
+    next.leg1 = leg1;
+    next.leg2 = leg2;
+    next.last = t;
+    next.armings = armings;
     let reports = Reports {
         event,
         charge1,
         charge2,
     };
-    answers::go_on(met_record(r, p, m, t), reports, Deadline::None)
+    answers::go_on(next, reports, Deadline::None)
 }

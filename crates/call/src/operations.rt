@@ -1,12 +1,9 @@
 // What Period over and the operations do, Request report apart (document 01, One call and Charging).
 ghost use mathlib.Core.Path.{_≡_};
-ghost use mathlib.Core.Bool.{_&&_};
 ghost use Prim.Native.Nat.{_<_};
 ghost use Rattle.forms.specs.Units.{clockEnd};
-ghost use Rattle.call.specs.Charging.{isPresent};
-ghost use Rattle.call.specs.Record.{numberOf, timed};
-ghost use Rattle.call.specs.Answers.{quietly};
-ghost use Rattle.call.specs.Operations.{after, routeTimer, routed, resumed, continued, canConnect, connected, uncharged, dropped, isRelease, aborted, charged, reportOn, periodOver, chargeApplied};
+ghost use Rattle.call.specs.Record.{numberOf};
+ghost use Rattle.call.specs.Operations.{after, routeTimer, routed, continued, canConnect, connected, dropped, isRelease, aborted, charged, reportOn, periodOver, chargeApplied};
 use crate::answers;
 use crate::answers::*;
 use crate::charging;
@@ -45,31 +42,18 @@ pub(crate) fn route(r: Record, t: Tenths) -> Stepped
     answers::go_on(next, answers::silent_reports(), deadline)
 }
 
-fn resume(r: Record, t: Tenths) -> Record
-    ensures { λ s. ⌜ s ≡ resumed r t ⌝ }
-{
-    let stage = r.stage;
-    let mut s = record::place(r, stage, Hold::None);
-    s.last = t;
-    s
-}
-
-fn has_both_legs(r: Record) -> bool
-    ensures { λ b. ⌜ b ≡ (isPresent (r .leg1 .presence) && isPresent (r .leg2 .presence)) ⌝ }
-{
-    let leg1 = r.leg1;
-    let leg2 = r.leg2;
-    charging::is_present(leg1) & charging::is_present(leg2)
-}
-
 // Continue, from a hold.
 pub(crate) fn continue_on(r: Record, t: Tenths) -> Stepped
     requires { ⌜ t .0 < clockEnd ⌝ }
     ensures { λ s. ⌜ s ≡ continued r t ⌝ }
 {
+    let stage = r.stage;
+    let leg1 = r.leg1;
+    let leg2 = r.leg2;
     let h = r.hold;
-    if has_both_legs(r) {
-        let next = resume(r, t);
+    if charging::is_present(leg1) & charging::is_present(leg2) {
+        let mut next = record::place(r, stage, Hold::None);
+        next.last = t;
         if relationship::is_trigger(h) {
             return route(next, t);
         }
@@ -87,8 +71,10 @@ pub(crate) fn can_connect(r: Record) -> bool
     relationship::is_trigger(h) | (charging::is_present(leg1) & !charging::is_present(leg2))
 }
 
-fn reconnect(r: Record, number: Number, t: Tenths) -> Record
-    ensures { λ s. ⌜ s ≡ connected r number t ⌝ }
+// Leg 2 is present again, the stage analysing, the number replaced, and routing starts.
+pub(crate) fn connect(r: Record, nature: u8, count: u8, digits: &[u8], t: Tenths) -> Stepped
+    requires { ⌜ t .0 < clockEnd ⌝ }
+    ensures { λ s. ⌜ s ≡ routed (connected r (numberOf nature count (now (digits .entry))) t) t ⌝ }
 {
     let l = r.leg2;
     let charge = l.charge;
@@ -96,29 +82,12 @@ fn reconnect(r: Record, number: Number, t: Tenths) -> Record
         presence: Presence::Present,
         charge,
     };
-    let mut s = record::place(r, Stage::Analysing, Hold::None);
-    s.leg2 = leg2;
-    s.last = t;
-    s.number = number;
-    s
-}
-
-pub(crate) fn connect(r: Record, nature: u8, count: u8, digits: &[u8], t: Tenths) -> Stepped
-    requires { ⌜ t .0 < clockEnd ⌝ }
-    ensures { λ s. ⌜ s ≡ routed (connected r (numberOf nature count (now (digits .entry))) t) t ⌝ }
-{
     let number = record::number_of(nature, count, digits);
-    route(reconnect(r, number, t), t)
-}
-
-fn without_charge(l: LegState) -> LegState
-    ensures { λ r. ⌜ r ≡ uncharged l ⌝ }
-{
-    let presence = l.presence;
-    LegState {
-        presence,
-        charge: Charge::None,
-    }
+    let mut next = record::place(r, Stage::Analysing, Hold::None);
+    next.leg2 = leg2;
+    next.last = t;
+    next.number = number;
+    route(next, t)
 }
 
 // All armings, charges and the kept timer are dropped.
@@ -127,8 +96,16 @@ fn drop_all(r: Record) -> Record
 {
     let l1 = r.leg1;
     let l2 = r.leg2;
-    let leg1 = without_charge(l1);
-    let leg2 = without_charge(l2);
+    let p1 = l1.presence;
+    let p2 = l2.presence;
+    let leg1 = LegState {
+        presence: p1,
+        charge: Charge::None,
+    };
+    let leg2 = LegState {
+        presence: p2,
+        charge: Charge::None,
+    };
     let armings = record::no_armings();
     let none = Seconds(0);
     let mut s = r;
@@ -209,11 +186,4 @@ pub(crate) fn apply_charging(r: Record, leg: Leg, period: Tenths, t: Tenths) -> 
     let stage = r.stage;
     let c = charging::grant(stage, period, t);
     answers::go_on_quietly(charge(r, leg, c, t))
-}
-
-// Activity test: nothing but the time changes.
-pub(crate) fn test(r: Record, t: Tenths) -> Stepped
-    ensures { λ s. ⌜ s ≡ quietly (timed r t) ⌝ }
-{
-    answers::go_on_quietly(record::with_last(r, t))
 }

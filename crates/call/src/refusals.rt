@@ -69,33 +69,29 @@ fn charging_refusal(r: Record, leg: Leg) -> Check
     answers::refuse_if(!possible, 12, pending)
 }
 
-// Row 10, and what is left of the rows.
-fn hold_refusal(r: Record, then: Check) -> Check
-    ensures { λ c. ⌜ c ≡ cond (row10 r .applies) (Check.Fail 10) then ⌝ }
-{
-    let h = r.hold;
-    answers::refuse_if(!relationship::is_held(h), 10, then)
-}
-
 fn connect_refusal(r: Record) -> Check
     ensures { λ c. ⌜ c ≡ firstOf (row10 r ∷ row12 (canConnect r) ∷ []) ⌝ }
 {
-    hold_refusal(
-        r,
-        answers::refuse_if(!operations::can_connect(r), 12, Check::Pass),
-    )
+    let h = r.hold;
+    let possible = answers::refuse_if(!operations::can_connect(r), 12, Check::Pass);
+    answers::refuse_if(!relationship::is_held(h), 10, possible)
 }
 
 // The first row that applies to the item.
 pub(crate) fn refusal(r: Record, k: Kind, t: Tenths, rest: &[u8]) -> Check
     ensures { λ c. ⌜ c ≡ firstOf (rowsOf r k t (now (rest .entry))) ⌝ }
 {
+    let h = r.hold;
     match k {
         Kind::Setup(_, _, _, _) => Check::Fail(5),
         Kind::Event(p) => event_refusal(r, p, t),
         Kind::PeriodOver(leg) => period_refusal(r, leg, t),
         Kind::RequestReport(n) => control_refusal(r, t, arming::entries_refusal(r, n, rest)),
-        Kind::Continue => control_refusal(r, t, hold_refusal(r, Check::Pass)),
+        Kind::Continue => control_refusal(
+            r,
+            t,
+            answers::refuse_if(!relationship::is_held(h), 10, Check::Pass),
+        ),
         Kind::Connect(_, _) => control_refusal(r, t, connect_refusal(r)),
         Kind::Release => control_refusal(r, t, Check::Pass),
         Kind::ApplyCharging(leg, _) => control_refusal(r, t, charging_refusal(r, leg)),

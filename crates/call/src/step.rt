@@ -10,6 +10,7 @@ use crate::events;
 use crate::operations;
 use crate::points::Role;
 use crate::range;
+use crate::record;
 use crate::record::*;
 use crate::refusals;
 use forms::item;
@@ -79,7 +80,7 @@ fn serve(r: Record, k: Kind, t: Tenths, rest: &[u8]) -> Stepped
         Kind::Connect(nature, count) => operations::connect(r, nature, count, rest, t),
         Kind::Release => answers::end(r, Report::None, t),
         Kind::ApplyCharging(leg, period) => operations::apply_charging(r, leg, period, t),
-        Kind::ActivityTest => operations::test(r, t),
+        Kind::ActivityTest => answers::go_on_quietly(record::with_last(r, t)),
         Kind::Abort => operations::abort(r, t),
     }
 }

@@ -1,4 +1,4 @@
-use mathlib.Core.Path.{sym, _∙_}
+use mathlib.Core.Path.{sym, ap, _∙_}
 use borrow.Author.Needs.{needs}
 use Rattle.call.specs.Events.{met}
 use Rattle.call.proofs.events.meet.Statement.{statement}
@@ -8,17 +8,19 @@ returns : tie.Need-returns
 unfolding met
 returns c =
     let b = c .before in
-    let m = b .before .before in
-    rw (c .end .ensures, m .event-report .ensures, ← m .before .mode-at .ensures, sym (b .before .ends-call .ensures) ∙ b .if1 .taken)
+    let m = b .before in
+    rw (c .end .ensures, m .by-mode .ensures, ← m .before .mode-at .ensures, sym (ap (λ x. x .over) (m .by-mode .ensures)) ∙ b .if1 .taken)
 
 returns-2 : tie.Need-returns-2
 unfolding met
 returns-2 c =
-    let b = c .before .before .before .before in
-    let m = b .before .before in
-    rw (c .go-on .ensures, c .before .met-record .ensures, c .before .before .charge-after2 .ensures, c .before .before .before .charge-after .ensures, m .event-report .ensures, ← m .before .mode-at .ensures, sym (b .before .ends-call .ensures) ∙ b .if1 .left)
+    let a = c .before .before .before in
+    let l = a .before .before .before in
+    let b = l .before .before in
+    let m = b .before in
+    rw (c .go-on .ensures, c .before .place .ensures, c .before .before .stage-after .ensures, a .disarm .ensures, l .leg-after2 .ensures, l .before .leg-after .ensures, m .by-mode .ensures, ← m .before .mode-at .ensures, sym (ap (λ x. x .over) (m .by-mode .ensures)) ∙ b .if1 .left)
 
 pub meet-spec : {M : Type 1} → statement M
 meet-spec =
     tie.close
-    (tie.spec (search needs) (search needs) (search needs) (search needs) returns (search needs) (search needs) (search needs) (search needs) returns-2)
+    (tie.spec (search needs) (search needs) (search needs) returns (search needs) (search needs) (search needs) (search needs) (search needs) (search needs) returns-2)

@@ -6,4 +6,4 @@ pub connect-spec : {M : Type 1} → statement M
 connect-spec =
     tie.close
     (tie.spec (search needs) (search needs) (search needs)
-    (λ c. rw (c .route .ensures, c .before .reconnect .ensures, c .before .before .number-of .ensures)))
+    (λ c. simp (c .route .ensures, c .before .place .ensures, c .before .before .number-of .ensures)))

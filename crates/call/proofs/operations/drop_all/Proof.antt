@@ -5,5 +5,5 @@ use Rattle.call.proofs.operations.drop_all.Tie as tie
 pub drop-all-spec : {M : Type 1} → statement M
 drop-all-spec =
     tie.close
-    (tie.spec (search needs) (search needs) (search needs)
-    (λ c. simp (c .no-armings .ensures, c .before .without-charge2 .ensures, c .before .before .without-charge .ensures)))
+    (tie.spec (search needs)
+    (λ c. simp (c .no-armings .ensures)))

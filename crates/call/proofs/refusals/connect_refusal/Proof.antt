@@ -5,5 +5,5 @@ use Rattle.call.proofs.refusals.connect_refusal.Tie as tie
 pub connect-refusal-spec : {M : Type 1} → statement M
 connect-refusal-spec =
     tie.close
-    (tie.spec (search needs) (search needs) (search needs)
-    (λ c. simp (c .hold-refusal .ensures, c .before .refuse-if .ensures, c .before .before .can-connect .ensures)))
+    (tie.spec (search needs) (search needs) (search needs) (search needs)
+    (λ c. simp (c .refuse-if2 .ensures, c .before .is-held .ensures, c .before .before .refuse-if .ensures, c .before .before .before .can-connect .ensures)))

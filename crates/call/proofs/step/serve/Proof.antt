@@ -7,7 +7,7 @@ serve-spec =
     tie.close
     (tie.spec (search needs) (search needs) (search needs) (search needs) (search needs) (search needs) (search needs)
     (search needs) (search needs) (search needs) (search needs) (search needs) (search needs) (search needs)
-    (search needs) (search needs) (search needs) (search needs) (search needs) (search needs)
+    (search needs) (search needs) (search needs) (search needs) (search needs) (search needs) (search needs)
     (λ c. simp (c .refuse .ensures, c .before .enum-told .given .1))
     (λ c. simp (c .meet .ensures, c .before .before .k .given .1))
     (λ c. simp (c .period-over .ensures, c .before .before .k2 .given .1))
@@ -16,5 +16,5 @@ serve-spec =
     (λ c. simp (c .connect .ensures, c .before .before .k4 .given .1))
     (λ c. simp (c .end .ensures, c .before .enum-told3 .given .1))
     (λ c. simp (c .apply-charging .ensures, c .before .before .k5 .given .1))
-    (λ c. simp (c .test .ensures, c .before .enum-told4 .given .1))
+    (λ c. simp (c .go-on-quietly .ensures, c .before .with-last .ensures, c .before .before .enum-told4 .given .1))
     (λ c. simp (c .abort .ensures, c .before .enum-told5 .given .1)))
