@@ -12,7 +12,7 @@ use borrow.Author.Tests.{eqb-true, eqb-false}
 use Rattle.forms.specs.Fields.{legNumber}
 use Rattle.forms.proofs.ByteLaws.{and-left, and-right}
 use Rattle.call.specs.Types.{Tenths, Leg, Role, Stage, Mode, Charge, LegState, Arming, Record, Relationship, ChargeReport, Answer, Stepped, Kind}
-use Rattle.forms.specs.declared.item.Leg.the-variants.{One}
+use Rattle.forms.specs.declared.item.Leg.the-variants.{One, Two}
 use Rattle.call.specs.declared.points.Role.the-variants as role
 use Rattle.call.specs.declared.record.Mode.the-variants as mode
 use Rattle.call.specs.declared.record.Charge.the-variants as charge
@@ -23,10 +23,10 @@ use Rattle.call.specs.declared.step.Kind.the-variants as kind
 use Rattle.call.specs.Points.{roles, placeOf, isRole, legOf, isOnLeg, isActive, losesLeg, disarms, unarmed, modeAt, disarmed}
 use Rattle.call.specs.Charging.{isPending, isStarted, answered, granted, reportOf}
 use Rattle.call.specs.Relationship.{isMode, someArmed, isHeld, relationshipOf, isRelated}
-use Rattle.call.specs.Record.{noTimer}
+use Rattle.call.specs.Record.{noTimer, legAt}
 use Rattle.call.specs.Answers.{Row}
 use Rattle.call.specs.Events.{leaves, legAfter, endsCall, met}
-use Rattle.call.specs.Operations.{routed}
+use Rattle.call.specs.Operations.{routed, chargeApplied}
 use Rattle.call.specs.Refusals.{row1Time, rowsOf}
 
 -- ---- relationship
@@ -96,6 +96,11 @@ elapsed-unstarted t (charge.Running period start) h = absurd (true≢false h)
 -- a charge that is accepted before the Answer waits: its clock does not run
 pub granted-waits : (s : Stage) (period t : Tenths) → isActive s ≡ false → granted s period t ≡ charge.Waiting period
 granted-waits s period t h = rw h
+
+-- so the record that an Apply charging leaves before the Answer
+pub applied-waits : (r : Record) (l : Leg) (period t : Tenths) → isActive (r .stage) ≡ false → legAt l (chargeApplied r l period t .next) .charge ≡ charge.Waiting period
+applied-waits r One period t h = granted-waits (r .stage) period t h
+applied-waits r Two period t h = granted-waits (r .stage) period t h
 
 -- "never restarts": an Answer leaves a started clock as it is
 pub answered-once : (t : Tenths) (c : Charge) → isStarted c ≡ true → answered t c ≡ c
