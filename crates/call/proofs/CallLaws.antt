@@ -36,6 +36,7 @@ unfoldable pub nothingArmed : List Arming → Bool
 nothingArmed [] = true
 nothingArmed (a ∷ l) = isMode (a .mode) mode.None && nothingArmed l
 
+-- not held, nothing armed, no charge pending
 abbrev pub isIdle : Record → Bool
 isIdle r = not (isHeld (r .hold)) && nothingArmed (r .armings) && not (isPending (r .leg1 .charge)) && not (isPending (r .leg2 .charge))
 
@@ -72,6 +73,7 @@ none-exactly r =
 
 -- ---- charging
 
+-- the period of a charge and the time in its report, 0 where there is none
 abbrev pub periodOf : Charge → ℕ
 periodOf charge.None = 0
 periodOf (charge.Waiting period) = period .0
@@ -120,6 +122,7 @@ routed-keeps-none r t = refl
 
 -- ---- refusals
 
+-- each number is greater than the one before
 abbrev pub rising : List Row → Bool
 rising [] = true
 rising (x ∷ []) = true
@@ -138,7 +141,7 @@ rows-rise r (kind.ApplyCharging l period) t rest = refl
 rows-rise r kind.ActivityTest t rest = refl
 rows-rise r kind.Abort t rest = refl
 
--- ---- roles: a fact of each of the ten is tested by computing
+-- ---- roles: the ten are all, so a test of the ten proves a rule for every role
 
 at-place : (p : Role) → getD roles (placeOf p) role.MidCall ≡ p
 at-place role.MidCall = refl
@@ -156,6 +159,7 @@ at-place role.Seized = refl
 pub place-injective : (p q : Role) → placeOf p ≡ placeOf q → p ≡ q
 place-injective p q e = sym (at-place p) ∙ ap (λ n. getD roles n role.MidCall) e ∙ at-place q
 
+-- the test f holds of every role in the list
 abbrev pub every : (Role → Bool) → List Role → Bool
 every f [] = true
 every f (p ∷ ps) = f p && every f ps
@@ -165,6 +169,7 @@ every-at f d k [] n h = k
 every-at f d k (p ∷ ps) zero h = and-left (f p) (every f ps) h
 every-at f d k (p ∷ ps) (suc n) h = every-at f d k ps n (and-right (f p) (every f ps) h)
 
+-- what is tested of the ten roles holds of every role
 pub every-role : (f : Role → Bool) → every f roles ≡ true → (p : Role) → f p ≡ true
 every-role f h p = rw (at-place p) at (every-at f role.MidCall (and-left (f role.MidCall) _ h) roles (placeOf p) h)
 
@@ -188,6 +193,7 @@ disarm-one p q a = go (isRole q p) refl
     go true e = rw (place-injective q p (eqb-true (placeOf q) (placeOf p) e)) (ap (λ x. x .mode) (wiped a (placeOf p)))
     go false e = ap (λ x. x .mode) (getD-set-other a (placeOf p) (placeOf q) unarmed unarmed (eqb-false (placeOf q) (placeOf p) e))
 
+-- so with a list of roles
 disarm-these : (ps : List Role) (q : Role) (a : List Arming) → modeAt q (disarmed ps a) ≡ cond (isAmong q ps) mode.None (modeAt q a)
 disarm-these [] q a = refl
 disarm-these (p ∷ ps) q a =

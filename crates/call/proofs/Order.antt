@@ -57,6 +57,7 @@ abbrev pub isAccepted : Answer → Bool
 isAccepted (Accepted o) = true
 isAccepted (Refused n) = false
 
+-- "both orders are accepted": this one, a at t and then b at u
 pub record BothAccepted (n : ℕ) (r : Record) (a : Request) (t : Tenths) (b : Request) (u : Tenths) : Type 0 where
   pub first : isAccepted (asked n r a t .answer) ≡ true
   pub second : isAccepted (inTurn n r a t b u .answer) ≡ true
@@ -64,15 +65,15 @@ pub record BothAccepted (n : ℕ) (r : Record) (a : Request) (t : Tenths) (b : R
 -- ---- two entries
 
 -- the leg and the point are those of the role p
-abbrev Pair : ℕ → ℕ → Role → Type 0
-Pair leg point p = (leg ≡ legNumber (legOf p)) × (point ≡ pairOf p .point)
+abbrev IsPair : ℕ → ℕ → Role → Type 0
+IsPair leg point p = (leg ≡ legNumber (legOf p)) × (point ≡ pairOf p .point)
 
-named-pair : (ps : List Role) (leg point : ℕ) (p : Role) → roleIn ps leg point ≡ Known p → Pair leg point p
+named-pair : (ps : List Role) (leg point : ℕ) (p : Role) → roleIn ps leg point ≡ Known p → IsPair leg point p
 named-pair [] leg point p h = absurd (let z : _≡_ {A = ℕ} 0 1 = cc in omega arith)
 named-pair (q ∷ ps) leg point p h = go (eqb leg (legNumber (legOf q)) && eqb point (pairOf q .point)) refl (λ k. named-pair ps leg point p k) h
   where
-    go : (b : Bool) → (eqb leg (legNumber (legOf q)) && eqb point (pairOf q .point)) ≡ b → (roleIn ps leg point ≡ Known p → Pair leg point p)
-        → cond b (Known q) (roleIn ps leg point) ≡ Known p → Pair leg point p
+    go : (b : Bool) → (eqb leg (legNumber (legOf q)) && eqb point (pairOf q .point)) ≡ b → (roleIn ps leg point ≡ Known p → IsPair leg point p)
+        → cond b (Known q) (roleIn ps leg point) ≡ Known p → IsPair leg point p
     go true e below k =
         let same : q ≡ p = cc in
         rw (← same) (eqb-true _ _ (and-left _ (eqb point (pairOf q .point)) e), eqb-true _ _ (and-right (eqb leg (legNumber (legOf q))) _ e))
@@ -114,6 +115,7 @@ unfolding armedWith
 past g [] h r = refl
 past g (e ∷ es) h r = ap (λ x. armedWith x es) (h e (In·head refl) r) ∙ past g es (λ f m. h f (In·tail m)) (armedBy r (named e) e)
 
+-- two lists change places where each entry of one does with each of the other
 swap : (es fs : List Entry) → ((e f : Entry) → In e es → In f fs → (r : Record) → armedBy (armedBy r (named e) e) (named f) f ≡ armedBy (armedBy r (named f) f) (named e) e)
     → (r : Record) → armedWith (armedWith r es) fs ≡ armedWith (armedWith r fs) es
 unfolding armedWith
@@ -144,6 +146,7 @@ entry-sound (Known q) seen e g p k = let same : q ≡ p = cc in rw (← same) (g
     go false true c x y h = inr (eqb-true _ _ y)
     go false false c x y h = absurd (false≢true h)
 
+-- every entry of a list that passes row 11 is sound
 good-sound : {e : Entry} {es : List Entry} → In e es → (seen : List Bool) → areGood seen es ≡ true → Sound (named e) e
 unfolding areGood
 good-sound (In·head {x = x} {xs = es} h) seen g = subst (λ y. Sound (named y) y) (sym h) (entry-sound (named x) seen x (and-left _ (areGood (seenAfter (named x) seen) es) g))
@@ -155,10 +158,12 @@ no-row [] h i = refl
 no-row (x ∷ xs) h zero = passes (x .applies) (x .number) (firstOf xs) h .0
 no-row (x ∷ xs) h (suc i) = no-row xs (passes (x .applies) (x .number) (firstOf xs) h .1) i
 
+-- an accepted item passed the rows
 not-refused : (c : Check) (r : Record) (s : Stepped) → isAccepted (guarded c r s .answer) ≡ true → c ≡ Pass
 not-refused Pass r s h = refl
 not-refused (Fail n) r s h = absurd (false≢true h)
 
+-- the rows that a request meets
 abbrev rows : Record → Request → Tenths → List Row
 rows r a t = row1Time t ∷ rowsOf r (kind.RequestReport (a .count)) t (a .bytes)
 
@@ -171,10 +176,10 @@ module _ (n : ℕ) (r : Record) (a : Request) (t : Tenths) (h : isAccepted (aske
   unfolding respondOf
   accepted-next = ap (λ c. guarded c r (requestReport r (a .count) (a .bytes) t) .next) none-applies
 
+  -- row 11 is the fourth, row 7 the second
   accepted-sound : (e : Entry) → In e (entries a) → Sound (named e) e
   accepted-sound e m = good-sound m noneSeen (not-false _ (no-row (rows r a t) none-applies 3))
 
-  -- its time is not before the call's last
   accepted-time : r .last .0 ≤ t .0
   accepted-time = ltb-false _ _ (no-row (rows r a t) none-applies 1)
 
@@ -191,7 +196,7 @@ module _ (n : ℕ) (r : Record) (a b : Request) (t u : Tenths) (x : BothAccepted
 
 -- ---- the theorem
 
--- each request at its place in the order, at any time: the second at u
+-- the times go with the places in the order: the second request comes at u, the first at any time
 pub either-order : (n : ℕ) (r : Record) (a b : Request) (t v u : Tenths) → Disjoint a b → BothAccepted n r a t b u → BothAccepted n r b v a u
     → inTurn n r a t b u .next ≡ inTurn n r b v a u .next
 either-order n r a b t v u d x y =
@@ -199,7 +204,7 @@ either-order n r a b t v u d x y =
     ∙ swap (entries a) (entries b) (λ e f m k. entry-swap (named e) (named f) e f refl refl (accepted-sound n r a t (x .first) e m) (accepted-sound n r b v (y .first) f k) (d e f m k)) (timed r u)
     ∙ sym (both-next n r b a v u y)
 
--- the same two items, each with its own time: the two times are then equal
+-- the times go with the requests: accepted in both orders, they come at one time
 pub either-order-items : (n : ℕ) (r : Record) (a b : Request) (t u : Tenths) → Disjoint a b → BothAccepted n r a t b u → BothAccepted n r b u a t
     → inTurn n r a t b u .next ≡ inTurn n r b u a t .next
 either-order-items n r a b t u d x y =
