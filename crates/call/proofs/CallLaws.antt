@@ -1,0 +1,243 @@
+-- Laws of one call, for a reader: what having no relationship means, charges and their clocks, what a lost leg disarms, the order of the refusals, the kept timer.
+use Prim.Native.Nat.{ℕ, zero, suc, _≤_}
+use mathlib.Core.Path.{_≡_, refl, sym, ap, _∙_}
+use mathlib.Core.Logic.{_↔_}
+use mathlib.Core.Bool.{Bool, true, false, not, cond, Bool·beq, _&&_, _||_, and-false, true≢false, false≢true}
+use mathlib.Core.List.{List, [], _∷_}
+use native.Mathlib.Omega.{arith}
+use lib.Dec.{ltb, eqb}
+use lib.ListN.{getD, set}
+use lib.Seq.{getD-set-other}
+use borrow.Author.Tests.{eqb-true, eqb-false}
+use Rattle.forms.specs.Fields.{legNumber}
+use Rattle.forms.proofs.ByteLaws.{and-left, and-right}
+use Rattle.call.specs.Types.{Tenths, Leg, Role, Stage, Mode, Charge, LegState, Arming, Record, Relationship, ChargeReport, Answer, Stepped, Kind}
+use Rattle.forms.specs.declared.item.Leg.the-variants.{One, Two}
+use Rattle.call.specs.declared.points.Role.the-variants as role
+use Rattle.call.specs.declared.record.Mode.the-variants as mode
+use Rattle.call.specs.declared.record.Charge.the-variants as charge
+use Rattle.call.specs.declared.answers.Relationship.the-variants as relationship
+use Rattle.call.specs.declared.answers.ChargeReport.the-variants as report
+use Rattle.call.specs.declared.answers.Answer.the-variants.{Accepted, Refused}
+use Rattle.call.specs.declared.step.Kind.the-variants as kind
+use Rattle.call.specs.Points.{roles, placeOf, isRole, legOf, isOnLeg, isActive, losesLeg, disarms, unarmed, modeAt, disarmed}
+use Rattle.call.specs.Charging.{isPending, isStarted, answered, granted, reportOf}
+use Rattle.call.specs.Relationship.{isMode, someArmed, isHeld, relationshipOf, isRelated}
+use Rattle.call.specs.Record.{noTimer, legAt}
+use Rattle.call.specs.Answers.{Row}
+use Rattle.call.specs.Events.{leaves, legAfter, endsCall, met}
+use Rattle.call.specs.Operations.{routed, chargeApplied}
+use Rattle.call.specs.Refusals.{row1Time, rowsOf}
+
+-- ---- relationship
+
+-- every arming's mode is none
+unfoldable pub nothingArmed : List Arming → Bool
+nothingArmed [] = true
+nothingArmed (a ∷ l) = isMode (a .mode) mode.None && nothingArmed l
+
+-- not held, nothing armed, no charge pending
+abbrev pub isIdle : Record → Bool
+isIdle r = not (isHeld (r .hold)) && nothingArmed (r .armings) && not (isPending (r .leg1 .charge)) && not (isPending (r .leg2 .charge))
+
+-- an armed point is armed in mode 0 or in mode 1
+armed-in : (l : List Arming) → nothingArmed l ≡ (not (someArmed mode.Interrupted l) && not (someArmed mode.Notify l))
+unfolding nothingArmed someArmed
+armed-in [] = refl
+armed-in (a ∷ l) = go (a .mode) (armed-in l)
+  where
+    go : (m : Mode) → nothingArmed l ≡ (not (someArmed mode.Interrupted l) && not (someArmed mode.Notify l))
+        → (isMode m mode.None && nothingArmed l) ≡ (not (isMode m mode.Interrupted || someArmed mode.Interrupted l) && not (isMode m mode.Notify || someArmed mode.Notify l))
+    go mode.None h = h
+    go mode.Interrupted h = refl
+    go mode.Notify h = sym (and-false (not (someArmed mode.Interrupted l)))
+
+-- control and monitor are not none
+related : (x : Relationship) → isRelated x ≡ true → (x ≡ relationship.None) ↔ (false ≡ true)
+related x h = (λ e. sym (ap isRelated e) ∙ h, λ e. absurd (false≢true e))
+
+-- "else none": the relationship is none exactly if the call is not held, nothing is armed and no charge is pending
+pub none-exactly : (r : Record) → (relationshipOf r ≡ relationship.None) ↔ (isIdle r ≡ true)
+none-exactly r =
+    rw (armed-in (r .armings)) (go (isHeld (r .hold)) (someArmed mode.Interrupted (r .armings)) (someArmed mode.Notify (r .armings)) (isPending (r .leg1 .charge)) (isPending (r .leg2 .charge)))
+  where
+    go : (held interrupted notify one two : Bool)
+        → (cond (held || interrupted) relationship.Control (cond (notify || (one || two)) relationship.Monitor relationship.None) ≡ relationship.None)
+        ↔ ((not held && (not interrupted && not notify) && not one && not two) ≡ true)
+    go true interrupted notify one two = related relationship.Control refl
+    go false true notify one two = related relationship.Control refl
+    go false false true one two = related relationship.Monitor refl
+    go false false false true two = related relationship.Monitor refl
+    go false false false false true = related relationship.Monitor refl
+    go false false false false false = (λ e. refl, λ e. refl)
+
+-- ---- charging
+
+-- the period of a charge and the time in its report, 0 where there is none
+abbrev pub periodOf : Charge → ℕ
+periodOf charge.None = 0
+periodOf (charge.Waiting period) = period .0
+periodOf (charge.Running period start) = period .0
+
+abbrev pub elapsedIn : ChargeReport → ℕ
+elapsedIn report.None = 0
+elapsedIn (report.Elapsed t) = t .0
+
+-- an elapsed time never exceeds its period
+pub elapsed-within : (t : Tenths) (c : Charge) → elapsedIn (reportOf t c) ≤ periodOf c
+elapsed-within t charge.None = omega arith
+elapsed-within t (charge.Waiting period) = omega arith
+elapsed-within t (charge.Running period start) = omega arith
+
+-- "0 if not started"
+pub elapsed-unstarted : (t : Tenths) (c : Charge) → isStarted c ≡ false → elapsedIn (reportOf t c) ≡ 0
+elapsed-unstarted t charge.None h = refl
+elapsed-unstarted t (charge.Waiting period) h = refl
+elapsed-unstarted t (charge.Running period start) h = absurd (true≢false h)
+
+-- a charge that is accepted before the Answer waits: its clock does not run
+pub granted-waits : (s : Stage) (period t : Tenths) → isActive s ≡ false → granted s period t ≡ charge.Waiting period
+granted-waits s period t h = rw h
+
+-- so the record that an Apply charging leaves before the Answer
+pub applied-waits : (r : Record) (l : Leg) (period t : Tenths) → isActive (r .stage) ≡ false → legAt l (chargeApplied r l period t .next) .charge ≡ charge.Waiting period
+applied-waits r One period t h = granted-waits (r .stage) period t h
+applied-waits r Two period t h = granted-waits (r .stage) period t h
+
+-- "never restarts": an Answer leaves a started clock as it is
+pub answered-once : (t : Tenths) (c : Charge) → isStarted c ≡ true → answered t c ≡ c
+answered-once t charge.None h = refl
+answered-once t (charge.Waiting period) h = absurd (false≢true h)
+answered-once t (charge.Running period start) h = refl
+
+-- no event but Answer starts a clock: a leg that stays keeps its charge as it was
+pub clock-kept : (p : Role) (l : Leg) (t : Tenths) (s : LegState) → isRole p role.Answer ≡ false → leaves p l ≡ false → legAfter p l t s ≡ s
+clock-kept p l t s h k = rw (k, h)
+
+-- ---- the kept timer
+
+-- "used once": once a call is routed no timer is kept
+pub routed-keeps-none : (r : Record) (t : Tenths) → routed r t .next .kept ≡ noTimer
+routed-keeps-none r t = refl
+
+-- ---- refusals
+
+-- each number is greater than the one before
+abbrev pub rising : List Row → Bool
+rising [] = true
+rising (x ∷ []) = true
+rising (x ∷ y ∷ l) = ltb (x .number) (y .number) && rising (y ∷ l)
+
+-- "Checked in this order": the numbers of the rows that an item meets rise, whatever it asks
+pub rows-rise : (r : Record) (k : Kind) (t : Tenths) (rest : List ℕ) → rising (row1Time t ∷ rowsOf r k t rest) ≡ true
+rows-rise r (kind.Setup nature service forwarded count) t rest = refl
+rows-rise r (kind.Event p) t rest = refl
+rows-rise r (kind.PeriodOver l) t rest = refl
+rows-rise r (kind.RequestReport n) t rest = refl
+rows-rise r kind.Continue t rest = refl
+rows-rise r (kind.Connect nature count) t rest = refl
+rows-rise r kind.Release t rest = refl
+rows-rise r (kind.ApplyCharging l period) t rest = refl
+rows-rise r kind.ActivityTest t rest = refl
+rows-rise r kind.Abort t rest = refl
+
+-- ---- roles: the ten are all, so a test of the ten proves a rule for every role
+
+at-place : (p : Role) → getD roles (placeOf p) role.MidCall ≡ p
+at-place role.MidCall = refl
+at-place role.Disconnect1 = refl
+at-place role.Abandon = refl
+at-place role.Moved = refl
+at-place role.RouteFailure = refl
+at-place role.Busy = refl
+at-place role.NoAnswer = refl
+at-place role.Answer = refl
+at-place role.Disconnect2 = refl
+at-place role.Seized = refl
+
+-- no two roles share a place
+pub place-injective : (p q : Role) → placeOf p ≡ placeOf q → p ≡ q
+place-injective p q e = sym (at-place p) ∙ ap (λ n. getD roles n role.MidCall) e ∙ at-place q
+
+-- the test f holds of every role in the list
+abbrev pub every : (Role → Bool) → List Role → Bool
+every f [] = true
+every f (p ∷ ps) = f p && every f ps
+
+every-at : (f : Role → Bool) (d : Role) → f d ≡ true → (ps : List Role) (n : ℕ) → every f ps ≡ true → f (getD ps n d) ≡ true
+every-at f d k [] n h = k
+every-at f d k (p ∷ ps) zero h = and-left (f p) (every f ps) h
+every-at f d k (p ∷ ps) (suc n) h = every-at f d k ps n (and-right (f p) (every f ps) h)
+
+-- what is tested of the ten roles holds of every role
+pub every-role : (f : Role → Bool) → every f roles ≡ true → (p : Role) → f p ≡ true
+every-role f h p = rw (at-place p) at (every-at f role.MidCall (and-left (f role.MidCall) _ h) roles (placeOf p) h)
+
+-- ---- a lost leg
+
+-- the role q is one of ps
+abbrev pub isAmong : Role → List Role → Bool
+isAmong q [] = false
+isAmong q (p ∷ ps) = isRole q p || isAmong q ps
+
+-- to disarm a role disarms it, and no other
+disarm-one : (p q : Role) (a : List Arming) → modeAt q (set a (placeOf p) unarmed) ≡ cond (isRole q p) mode.None (modeAt q a)
+disarm-one p q a = go (isRole q p) refl
+  where
+    wiped : (l : List Arming) (n : ℕ) → getD (set l n unarmed) n unarmed ≡ unarmed
+    wiped [] n = refl
+    wiped (x ∷ l) zero = refl
+    wiped (x ∷ l) (suc n) = wiped l n
+
+    go : (b : Bool) → isRole q p ≡ b → modeAt q (set a (placeOf p) unarmed) ≡ cond b mode.None (modeAt q a)
+    go true e = rw (place-injective q p (eqb-true (placeOf q) (placeOf p) e)) (ap (λ x. x .mode) (wiped a (placeOf p)))
+    go false e = ap (λ x. x .mode) (getD-set-other a (placeOf p) (placeOf q) unarmed unarmed (eqb-false (placeOf q) (placeOf p) e))
+
+-- so with a list of roles
+disarm-these : (ps : List Role) (q : Role) (a : List Arming) → modeAt q (disarmed ps a) ≡ cond (isAmong q ps) mode.None (modeAt q a)
+disarm-these [] q a = refl
+disarm-these (p ∷ ps) q a =
+    disarm-these ps q (set a (placeOf p) unarmed) ∙ ap (λ m. cond (isAmong q ps) mode.None m) (disarm-one p q a) ∙ go (isRole q p) (isAmong q ps)
+  where
+    go : (here there : Bool) → cond there mode.None (cond here mode.None (modeAt q a)) ≡ cond (here || there) mode.None (modeAt q a)
+    go true true = refl
+    go true false = refl
+    go false there = refl
+
+-- a role that loses its leg disarms the roles of that leg: a test of all pairs of roles
+own-leg : (p q : Role) → losesLeg p ≡ true → isAmong q (disarms p) ≡ isOnLeg q (legOf p)
+own-leg p q h = go (losesLeg p) (isAmong q (disarms p)) (isOnLeg q (legOf p)) h (every-role (test p) (every-role (λ x. every (test x) roles) refl p) q)
+  where
+    test : Role → Role → Bool
+    test x y = not (losesLeg x) || Bool·beq (isAmong y (disarms x)) (isOnLeg y (legOf x))
+
+    go : (l a b : Bool) → l ≡ true → (not l || Bool·beq a b) ≡ true → a ≡ b
+    go true true true h k = refl
+    go true true false h k = sym k
+    go true false true h k = k
+    go true false false h k = refl
+    go false a b h k = absurd (false≢true h)
+
+-- Busy and the others that lose a leg disarm that leg's points and leave every point of the other
+pub lost-leg : (p q : Role) (a : List Arming) → losesLeg p ≡ true → modeAt q (disarmed (disarms p) a) ≡ cond (isOnLeg q (legOf p)) mode.None (modeAt q a)
+lost-leg p q a h = rw (disarm-these (disarms p) q a, own-leg p q h)
+
+abbrev pub isOver : Answer → Bool
+isOver (Accepted o) = o .over
+isOver (Refused n) = false
+
+-- of a choice with an end, what is not over is the other
+goes-on : (b : Bool) (x y : Stepped) → isOver (x .answer) ≡ true → isOver (cond b x y .answer) ≡ false → cond b x y ≡ y
+goes-on true x y e h = absurd (true≢false (sym e ∙ h))
+goes-on false x y e h = refl
+
+-- so in the record that is left where the call goes on
+pub lost-leg-met : (r : Record) (p q : Role) (t : Tenths) → losesLeg p ≡ true → isOver (met r p t .answer) ≡ false
+    → modeAt q (met r p t .next .armings) ≡ cond (isOnLeg q (legOf p)) mode.None (modeAt q (r .armings))
+unfolding met
+lost-leg-met r p q t h k = ap (λ s. modeAt q (s .next .armings)) (goes-on (endsCall p (modeAt p (r .armings))) _ _ refl k) ∙ lost-leg p q (r .armings) h
+
+-- P9 for every record: Busy leaves each leg 1 arming as it was
+pub busy-spares-caller : (r : Record) (q : Role) (t : Tenths) → legOf q ≡ One → isOver (met r role.Busy t .answer) ≡ false
+    → modeAt q (met r role.Busy t .next .armings) ≡ modeAt q (r .armings)
+busy-spares-caller r q t e h = lost-leg-met r role.Busy q t refl h ∙ ap (λ l. cond (eqb (legNumber l) 2) mode.None (modeAt q (r .armings))) e
