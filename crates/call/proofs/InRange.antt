@@ -5,7 +5,7 @@ use mathlib.Core.Path.{_≡_, refl, sym, ap, _∙_, subst}
 use mathlib.Core.Bool.{Bool, true, false, not, cond, _&&_, _||_}
 use mathlib.Core.List.{List, [], _∷_}
 use native.Mathlib.Omega.{arith}
-use lib.Dec.{leb, ltb, eqb}
+use lib.Dec.{leb, eqb}
 use lib.ListN.{length, getD, drop, set}
 use borrow.Author.Tests.{leb-true, ltb-false, le-leb, eq-eqb, eqb-true, not-false}
 use Rattle.forms.specs.Bytes.{within, all, same}
@@ -32,15 +32,15 @@ use Rattle.call.specs.Charging.{leg, isPresent, answered, granted}
 use Rattle.call.specs.Record.{numberOf, timed, placed, withLegs, withLeg, armedAs, numbered}
 use Rattle.call.specs.Relationship.{isMode, modeOf, isHeld, isTrigger}
 use Rattle.call.specs.Answers.{firstOf, guarded}
-use Rattle.call.specs.Arming.{entriesOf, named, isModeFor, isTimerFor, isGood, seenAfter, areGood, noneSeen, arePossible, keptAfter, armedBy, armedWith}
+use Rattle.call.specs.Arming.{entriesOf, named, isModeFor, isTimerFor, isGood, seenAfter, areGood, noneSeen, keptAfter, armedBy, armedWith}
 use Rattle.call.specs.Trigger.{triggers}
 use Rattle.call.specs.Events.{holdAfter, leaves, legAfter, endsCall, metRecord, met}
 use Rattle.call.specs.Operations.{resumed, continued, connected, dropped, isRelease, aborted, charged}
-use Rattle.call.specs.Refusals.{row1, row1Time, row2, row3, row7, row8, row11, row12, rowsOf}
+use Rattle.call.specs.Refusals.{row1, row1Time, row2, row3, row7, rowsOf}
 use Rattle.call.specs.Range.{timeInRange, chargeInRange, holdInRange, placesInRange, numberInRange, recordInRange}
 use Rattle.call.specs.Step.{kindOf, served, respondOf, stepOf}
 use Rattle.call.specs.Setup.{opened, begun, openAs, openOf}
-use Rattle.call.proofs.Laws.{passes}
+use Rattle.call.proofs.Laws.{passes, no-row}
 
 -- ---- tests in a row
 
@@ -341,7 +341,7 @@ module _ (r : Record) (t : Tenths) (rest : List ℕ) (f : Fits r) (o : timeInRan
 
   -- the first row: the time is not before the last
   in-time : (k : Kind) → firstOf (row7 r t ∷ drop 1 (rowsOf r k t rest)) ≡ Pass → r .last .0 ≤ t .0
-  in-time k h = ltb-false _ _ (passes (ltb (t .0) (r .last .0)) 7 (firstOf (drop 1 (rowsOf r k t rest))) h .0)
+  in-time k h = ltb-false _ _ (no-row (row7 r t ∷ drop 1 (rowsOf r k t rest)) h 0)
 
   served-left : (k : Kind) → asksFit k rest ≡ true → firstOf (rowsOf r k t rest) ≡ Pass → isLeftWell t (served r k t rest) ≡ true
   served-left (kind.Setup n s w c) a h = refl
@@ -349,10 +349,8 @@ module _ (r : Record) (t : Tenths) (rest : List ℕ) (f : Fits r) (o : timeInRan
   served-left (kind.PeriodOver l) a h = let q = charged-fits r t f o (in-time (kind.PeriodOver l) h) l charge.None refl in goes _ t (q .0) (q .1)
   served-left (kind.RequestReport n) a h =
       let es = entriesOf n rest in
-      let next = firstOf (row12 (arePossible r es) ∷ []) in
-      let by8 = passes (row7 r t .applies) 7 (firstOf (row8 r ∷ row11 es ∷ row12 (arePossible r es) ∷ [])) h .1 in
-      let by11 = passes (row8 r .applies) 8 (firstOf (row11 es ∷ row12 (arePossible r es) ∷ [])) by8 .1 in
-      let q = entries-fit (timed r t) es noneSeen (timed-fits r t f o (in-time (kind.RequestReport n) h)) (not-false (areGood noneSeen es) (passes (row11 es .applies) 11 next by11 .0)) in
+      let good = not-false (areGood noneSeen es) (no-row (rowsOf r (kind.RequestReport n) t rest) h 2) in
+      let q = entries-fit (timed r t) es noneSeen (timed-fits r t f o (in-time (kind.RequestReport n) h)) good in
       goes (armedWith (timed r t) es) t (q .0) (q .1)
   served-left kind.Continue a h = continued-left r t f o (in-time kind.Continue h)
   served-left (kind.Connect n c) a h =
@@ -376,15 +374,14 @@ respond-left r i rest h g =
     let b = allInRange (form .fields) && restInRange (form .rest) rest in
     let o = and-right b (timeInRange t) g in
     guarded-left (firstOf (row1Time t ∷ rowsOf r k t rest)) r (served r k t rest) t
-    (λ e. served-left r t rest (fits r h) o k (body-fits (i .body) (r .stage) rest (and-left b (timeInRange t) g)) (passes (not (timeInRange t)) 1 (firstOf (rowsOf r k t rest)) e .1))
+    (λ e. served-left r t rest (fits r h) o k (body-fits (i .body) (r .stage) rest (and-left b (timeInRange t) g)) (passes (row1Time t .applies) 1 (firstOf (rowsOf r k t rest)) e .1))
 
 -- any item on any record: what is out of range is refused
 pub step-left : (r : Record) (i : Item) (rest : List ℕ) → isLeftWell (i .time) (stepOf r i rest) ≡ true
 unfolding stepOf
 step-left r i rest =
     guarded-left (firstOf (row1 i rest ∷ row3 r ∷ [])) r (respondOf r i rest) (i .time)
-    (λ e. let q = passes (row1 i rest .applies) 1 (firstOf (row3 r ∷ [])) e in
-    respond-left r i rest (not-false (recordInRange r) (passes (row3 r .applies) 3 Pass (q .1) .0)) (not-false (itemInRange i rest) (q .0)))
+    (λ e. let q = no-row (row1 i rest ∷ row3 r ∷ []) e in respond-left r i rest (not-false (recordInRange r) (q 1)) (not-false (itemInRange i rest) (q 0)))
 
 -- a Setup that opens a call
 begun-left : (b : Bool) (timer : Seconds) (handling : Handling) (n : Number) (t : Tenths) → within 10 180 (timer .0) ≡ true → timeInRange t ≡ true → numberInRange n ≡ true → isLeftWell t (begun b timer handling n t) ≡ true
@@ -414,7 +411,7 @@ open-as-left : (k : Kind) (s : List ℕ) (t : Tenths) (rest : List ℕ) → time
 open-as-left (kind.Setup n v w c) s t rest o a =
     let p = profileOf s in
     guarded-left (firstOf (row2 s ∷ [])) _ (begun (triggers p n v w rest) (p .timer) (p .handling) (numberOf n c rest) t) t
-    (λ e. begun-left (triggers p n v w rest) (p .timer) (p .handling) (numberOf n c rest) t (profile-fits s (not-false (isProfile p s) (passes (row2 s .applies) 2 Pass e .0))) o a)
+    (λ e. begun-left (triggers p n v w rest) (p .timer) (p .handling) (numberOf n c rest) t (profile-fits s (not-false (isProfile p s) (no-row (row2 s ∷ []) e 0))) o a)
 open-as-left (kind.Event p) s t rest o a = refl
 open-as-left (kind.PeriodOver l) s t rest o a = refl
 open-as-left (kind.RequestReport n) s t rest o a = refl
@@ -433,5 +430,5 @@ open-left i rest s =
     let form = formOf (i .body) in
     let b = allInRange (form .fields) && restInRange (form .rest) rest in
     guarded-left (firstOf (row1 i rest ∷ [])) _ (openAs k s t rest) t
-    (λ e. let g = not-false (b && timeInRange t) (passes (not (b && timeInRange t)) 1 Pass e .0) in
+    (λ e. let g = not-false (b && timeInRange t) (no-row (row1 i rest ∷ []) e 0) in
     open-as-left k s t rest (and-right b (timeInRange t) g) (body-fits (i .body) Analysing rest (and-left b (timeInRange t) g)))

@@ -1,14 +1,14 @@
 -- Laws of tests and of the loops, for the proofs of the functions and for the theorems.
 use Prim.Native.Nat.{ℕ, zero, suc, _+_, _-_, _*_, _≤_, _<_}
-use mathlib.Core.Path.{_≡_, refl, sym, ap, _∙_}
+use mathlib.Core.Path.{_≡_, refl, sym, ap}
 use mathlib.Core.Bool.{Bool, true, false, cond, _&&_, _||_, and-true, and-assoc, or-false}
 use mathlib.Core.List.{List, [], _∷_, _++_}
 use native.Mathlib.Numerals.{add-one}
 use native.Mathlib.Nat.{sub-eq-zero-of-le}
 use native.Mathlib.Omega.{arith}
 use lib.Dec.{ltb, eqb}
-use lib.ListN.{length, getD, take, drop, set, drop-of-length-le, length-set}
-use lib.Seq.{drop-cons, drop-drop, take-suc-set, take-all}
+use lib.ListN.{length, getD, take, drop, set, drop-of-length-le}
+use lib.Seq.{drop-cons, drop-drop, take-suc-set}
 use borrow.Author.Tests.{ltb-true, ltb-false, lt-ltb, le-ltb}
 use Rattle.forms.specs.Fields.{isDigit, allInRange}
 use Rattle.forms.specs.Item.{entryOf, pad}
@@ -18,11 +18,12 @@ use Rattle.forms.specs.Units.{clockEnd}
 use Rattle.call.specs.Types.{Entry, Item, Tenths, Mode, Arming, Record, Check}
 use Rattle.forms.specs.declared.profile.ProfileView.{ProfileView}
 use Rattle.forms.specs.declared.profile.ReadProfile.the-variants.{Profile, Refused}
-use Rattle.forms.proofs.ByteLaws.{and-left, and-right}
+use Rattle.forms.proofs.ByteLaws.{and-right}
 use Rattle.forms.proofs.ItemLaws.{item-size}
 use Rattle.call.specs.declared.answers.Check.the-variants.{Pass, Fail}
 use Rattle.call.specs.Points.{unarmed}
 use Rattle.call.specs.Relationship.{isMode, someArmed}
+use Rattle.call.specs.Answers.{Row, row, firstOf}
 use Rattle.call.specs.Arming.{entriesOf, named, isGood, seenAfter, areGood, isPossible, arePossible, armedBy, armedWith}
 use Rattle.call.specs.Range.{placesInRange}
 
@@ -55,6 +56,12 @@ ltb-shift s p t h = ltb-same (t - s) p t (s + p) (λ k. omega arith) (λ k. omeg
 pub passes : (b : Bool) (n : ℕ) (c : Check) → cond b (Fail n) c ≡ Pass → (b ≡ false) × (c ≡ Pass)
 passes true n c e = absurd (let z : _≡_ {A = ℕ} 0 1 = cc in omega arith)
 passes false n c e = (refl, e)
+
+-- where no refusal is given, no row applies
+pub no-row : (rows : List Row) → firstOf rows ≡ Pass → (i : ℕ) → getD rows i (row 0 false) .applies ≡ false
+no-row [] h i = refl
+no-row (x ∷ xs) h zero = passes (x .applies) (x .number) (firstOf xs) h .0
+no-row (x ∷ xs) h (suc i) = no-row xs (passes (x .applies) (x .number) (firstOf xs) h .1) i
 
 -- ---- what was read of a profile, and an item in range
 

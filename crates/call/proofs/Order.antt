@@ -1,5 +1,5 @@
 -- Demand 3, last sentence: "within one call, whatever its record, two arming requests that name no pair of leg and point in common leave equal records in either order, whenever both orders are accepted".
-use Prim.Native.Nat.{ℕ, zero, suc, _≤_}
+use Prim.Native.Nat.{ℕ, _≤_}
 use mathlib.Core.Path.{_≡_, refl, sym, subst, ap, _∙_}
 use mathlib.Core.Logic.{_⊎_, inl, inr}
 use mathlib.Core.Bool.{Bool, true, false, not, cond, _&&_, _||_, false≢true}
@@ -19,14 +19,14 @@ use Rattle.call.specs.declared.points.Named.the-variants.{Unknown, Known
 use Rattle.call.specs.declared.answers.Answer.the-variants.{Accepted, Refused}
 use Rattle.call.specs.declared.answers.Check.the-variants.{Pass, Fail}
 use Rattle.call.specs.declared.step.Kind.the-variants as kind
-use Rattle.call.specs.Points.{roles, placeOf, isRole, pairOf, legOf, roleIn}
+use Rattle.call.specs.Points.{roles, placeOf, isRole, pointOf, legOf, roleIn}
 use Rattle.call.specs.Record.{timed, armedAs}
 use Rattle.call.specs.Relationship.{modeOf}
-use Rattle.call.specs.Answers.{Row, row, firstOf, guarded}
+use Rattle.call.specs.Answers.{Row, firstOf, guarded}
 use Rattle.call.specs.Arming.{entriesOf, named, isModeFor, isGood, seenAfter, areGood, noneSeen, keptAfter, armedBy, armedWith, requestReport}
 use Rattle.call.specs.Refusals.{row1Time, rowsOf}
 use Rattle.call.specs.Step.{respondOf}
-use Rattle.call.proofs.Laws.{same-tenths, passes}
+use Rattle.call.proofs.Laws.{same-tenths, no-row}
 use Rattle.call.proofs.CallLaws.{place-injective}
 
 -- ---- the statement's words
@@ -66,17 +66,17 @@ pub record BothAccepted (n : ℕ) (r : Record) (a : Request) (t : Tenths) (b : R
 
 -- the leg and the point are those of the role p
 abbrev IsPair : ℕ → ℕ → Role → Type 0
-IsPair leg point p = (leg ≡ legNumber (legOf p)) × (point ≡ pairOf p .point)
+IsPair leg point p = (leg ≡ legNumber (legOf p)) × (point ≡ pointOf p .number)
 
 named-pair : (ps : List Role) (leg point : ℕ) (p : Role) → roleIn ps leg point ≡ Known p → IsPair leg point p
 named-pair [] leg point p h = absurd (let z : _≡_ {A = ℕ} 0 1 = cc in omega arith)
-named-pair (q ∷ ps) leg point p h = go (eqb leg (legNumber (legOf q)) && eqb point (pairOf q .point)) refl (λ k. named-pair ps leg point p k) h
+named-pair (q ∷ ps) leg point p h = go (eqb leg (legNumber (legOf q)) && eqb point (pointOf q .number)) refl (λ k. named-pair ps leg point p k) h
   where
-    go : (b : Bool) → (eqb leg (legNumber (legOf q)) && eqb point (pairOf q .point)) ≡ b → (roleIn ps leg point ≡ Known p → IsPair leg point p)
+    go : (b : Bool) → (eqb leg (legNumber (legOf q)) && eqb point (pointOf q .number)) ≡ b → (roleIn ps leg point ≡ Known p → IsPair leg point p)
         → cond b (Known q) (roleIn ps leg point) ≡ Known p → IsPair leg point p
     go true e below k =
         let same : q ≡ p = cc in
-        rw (← same) (eqb-true _ _ (and-left _ (eqb point (pairOf q .point)) e), eqb-true _ _ (and-right (eqb leg (legNumber (legOf q))) _ e))
+        rw (← same) (eqb-true _ _ (and-left _ (eqb point (pointOf q .number)) e), eqb-true _ _ (and-right (eqb leg (legNumber (legOf q))) _ e))
     go false e below k = below k
 
 -- only No answer has a timer
@@ -101,7 +101,7 @@ entry-swap (Known p) Unknown e f h k a b d r = refl
 entry-swap (Known p) (Known q) e f h k a b d r =
     let x = named-pair roles (e .leg) (e .point) p h in
     let y = named-pair roles (f .leg) (f .point) q k in
-    let apart : placeOf p ≡ placeOf q → ⊥ = λ z. let same = place-injective p q z in d (x .0 ∙ ap (λ s. legNumber (legOf s)) same ∙ sym (y .0)) (x .1 ∙ ap (λ s. pairOf s .point) same ∙ sym (y .1)) in
+    let apart : placeOf p ≡ placeOf q → ⊥ = λ z. let same = place-injective p q z in d (x .0 ∙ ap (λ s. legNumber (legOf s)) same ∙ sym (y .0)) (x .1 ∙ ap (λ s. pointOf s .number) same ∙ sym (y .1)) in
     let armings = set-comm (r .armings) (placeOf p) (placeOf q) (record { mode = modeOf (e .mode) }) (record { mode = modeOf (f .mode) }) apart in
     let kept = kept-swap p q e f (r .kept) (a p refl) (b q refl) apart in
     λ i. armedAs r (armings i) (kept i)
@@ -151,12 +151,6 @@ good-sound : {e : Entry} {es : List Entry} → In e es → (seen : List Bool) �
 unfolding areGood
 good-sound (In·head {x = x} {xs = es} h) seen g = subst (λ y. Sound (named y) y) (sym h) (entry-sound (named x) seen x (and-left _ (areGood (seenAfter (named x) seen) es) g))
 good-sound (In·tail {x = x} m) seen g = good-sound m (seenAfter (named x) seen) (and-right (isGood (named x) seen x) _ g)
-
--- where no refusal is given, no row applies
-no-row : (rows : List Row) → firstOf rows ≡ Pass → (i : ℕ) → getD rows i (row 0 false) .applies ≡ false
-no-row [] h i = refl
-no-row (x ∷ xs) h zero = passes (x .applies) (x .number) (firstOf xs) h .0
-no-row (x ∷ xs) h (suc i) = no-row xs (passes (x .applies) (x .number) (firstOf xs) h .1) i
 
 -- an accepted item passed the rows
 not-refused : (c : Check) (r : Record) (s : Stepped) → isAccepted (guarded c r s .answer) ≡ true → c ≡ Pass

@@ -14,12 +14,12 @@ use Rattle.call.specs.Step.{isSetup, respondOf}
 use Rattle.call.specs.Setup.{openOf}
 
 -- "or nothing when the call is over. A refusal leaves what is kept."
-abbrev pub keptAfter : Option Record → Answer → Record → Option Record
-keptAfter k (Refused n) next = k
-keptAfter k (Accepted o) next = cond (o .over) none (some next)
+abbrev pub remaining : Option Record → Answer → Record → Option Record
+remaining k (Refused n) next = k
+remaining k (Accepted o) next = cond (o .over) none (some next)
 
 abbrev pub keep : Option Record → Stepped → Answer × Option Record
-keep k s = (s .answer, keptAfter k (s .answer) (s .next))
+keep k s = (s .answer, remaining k (s .answer) (s .next))
 
 -- "Setup: first any refusal checked before 3; then 5 if a record is kept; else Triggering's answer, …, and a record"
 abbrev pub setupAlone : Option Record → Item → List ℕ → List ℕ → Answer × Option Record

@@ -31,10 +31,7 @@ row2 s = row 2 (not (isProfile (profileOf s) s))
 abbrev pub row3 : Record → Row
 row3 r = row 3 (not (recordInRange r))
 
--- "call not open (all but Setup)", "call already open (Setup)"
-abbrev pub row4 : Row
-row4 = row 4 true
-
+-- "call already open (Setup)"
 abbrev pub row5 : Row
 row5 = row 5 true
 

@@ -41,19 +41,23 @@ abbrev pub begun : Bool → Seconds → Handling → Number → Tenths → Stepp
 begun true timer handling number t = goesOn (opened timer handling number hold.Trigger t) (reports report.Trigger due.None due.None) deadline.None
 begun false timer handling number t = routed (opened timer handling number hold.None t) t
 
+-- "call not open (all but Setup)"
+abbrev pub notOpen : Stepped
+notOpen = refused blank 4
+
 abbrev pub openAs : Kind → List ℕ → Tenths → List ℕ → Stepped
 openAs (kind.Setup nature service forwarded count) s t rest =
     let p = profileOf s in
     guarded (firstOf (row2 s ∷ [])) blank (begun (triggers p nature service forwarded rest) (p .timer) (p .handling) (numberOf nature count rest) t)
-openAs (kind.Event x) s t rest = refused blank 4
-openAs (kind.PeriodOver l) s t rest = refused blank 4
-openAs (kind.RequestReport n) s t rest = refused blank 4
-openAs kind.Continue s t rest = refused blank 4
-openAs (kind.Connect nature count) s t rest = refused blank 4
-openAs kind.Release s t rest = refused blank 4
-openAs (kind.ApplyCharging l period) s t rest = refused blank 4
-openAs kind.ActivityTest s t rest = refused blank 4
-openAs kind.Abort s t rest = refused blank 4
+openAs (kind.Event x) s t rest = notOpen
+openAs (kind.PeriodOver l) s t rest = notOpen
+openAs (kind.RequestReport n) s t rest = notOpen
+openAs kind.Continue s t rest = notOpen
+openAs (kind.Connect nature count) s t rest = notOpen
+openAs kind.Release s t rest = notOpen
+openAs (kind.ApplyCharging l period) s t rest = notOpen
+openAs kind.ActivityTest s t rest = notOpen
+openAs kind.Abort s t rest = notOpen
 
 -- any item, with its digits and the bytes s of its profile, where no call is open: a Setup opens one, all else is 4
 unfoldable pub openOf : Item → List ℕ → List ℕ → Stepped

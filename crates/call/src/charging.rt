@@ -45,10 +45,12 @@ pub(crate) fn answer(t: Tenths, c: Charge) -> Charge
 pub(crate) fn grant(s: Stage, period: Tenths, t: Tenths) -> Charge
     ensures { λ r. ⌜ r ≡ granted s period t ⌝ }
 {
+    let waiting = Charge::Waiting(period);
+    let running = Charge::Running(period, t);
     if points::is_active(s) {
-        Charge::Running(period, t)
+        running
     } else {
-        Charge::Waiting(period)
+        waiting
     }
 }
 

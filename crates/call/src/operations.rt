@@ -35,11 +35,11 @@ pub(crate) fn route(r: Record, t: Tenths) -> Stepped
     requires { ⌜ t .0 < clockEnd ⌝ }
     ensures { λ s. ⌜ s ≡ routed r t ⌝ }
 {
-    let deadline = deadline_after(t, route_timer(r));
+    let timer = route_timer(r);
     let none = Seconds(0);
     let mut next = r;
     next.kept = none;
-    answers::go_on(next, answers::silent_reports(), deadline)
+    answers::go_on(next, answers::silent_reports(), deadline_after(t, timer))
 }
 
 // Continue, from a hold.

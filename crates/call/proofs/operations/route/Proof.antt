@@ -6,4 +6,4 @@ pub route-spec : {M : Type 1} → statement M
 route-spec =
     tie.close
     (tie.spec (search needs) (search needs) (search needs) (search needs)
-    (λ c. simp (c .go-on .ensures, c .before .silent-reports .ensures, c .before .before .deadline-after .ensures, c .before .before .before .route-timer .ensures)))
+    (λ c. simp (c .go-on .ensures, c .before .deadline-after .ensures, c .before .before .silent-reports .ensures, c .before .before .before .route-timer .ensures)))

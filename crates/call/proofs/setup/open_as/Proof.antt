@@ -6,9 +6,7 @@ use types.Run.{OneOf, miss}
 use borrow.Author.Needs.{needs}
 use Rattle.call.specs.Types.{Tenths, Kind}
 use Rattle.call.specs.declared.step.Kind.the-variants as kind
-use Rattle.call.specs.Answers.{refused}
-use Rattle.call.specs.Record.{blank}
-use Rattle.call.specs.Setup.{openAs}
+use Rattle.call.specs.Setup.{notOpen, openAs}
 use Rattle.call.proofs.step.Kind.{the-type}
 use Rattle.call.proofs.setup.open_as.Statement.{statement}
 use Rattle.call.proofs.setup.open_as.Tie as tie
@@ -17,7 +15,7 @@ use Rattle.call.proofs.setup.open_as.Tie as tie
 abbrev others : List ℕ
 others = 1 ∷ 2 ∷ 3 ∷ 4 ∷ 5 ∷ 6 ∷ 7 ∷ 8 ∷ 9 ∷ []
 
-no-setup : (k : Kind) (s rest : List ℕ) (t : Tenths) → OneOf others (tagOf the-type k) → openAs k s t rest ≡ refused blank 4
+no-setup : (k : Kind) (s rest : List ℕ) (t : Tenths) → OneOf others (tagOf the-type k) → openAs k s t rest ≡ notOpen
 no-setup (kind.Setup nature service forwarded count) s rest t h = absurd (miss others 0 tt h)
 no-setup (kind.Event p) s rest t h = refl
 no-setup (kind.PeriodOver l) s rest t h = refl
