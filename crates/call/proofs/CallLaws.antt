@@ -10,8 +10,9 @@ use lib.ListN.{getD, set}
 use lib.Seq.{getD-set-other}
 use borrow.Author.Tests.{eqb-true, eqb-false}
 use Rattle.forms.specs.Fields.{legNumber}
+use Rattle.forms.specs.Item.{itemInRange}
 use Rattle.forms.proofs.ByteLaws.{and-left, and-right}
-use Rattle.call.specs.Types.{Tenths, Leg, Role, Stage, Mode, Charge, LegState, Arming, Record, Relationship, ChargeReport, Answer, Stepped, Kind}
+use Rattle.call.specs.Types.{Item, Tenths, Leg, Role, Stage, Mode, Charge, LegState, Arming, Record, Relationship, ChargeReport, Answer, Stepped, Kind}
 use Rattle.forms.specs.declared.item.Leg.the-variants.{One, Two}
 use Rattle.call.specs.declared.points.Role.the-variants as role
 use Rattle.call.specs.declared.record.Mode.the-variants as mode
@@ -28,6 +29,8 @@ use Rattle.call.specs.Answers.{Row}
 use Rattle.call.specs.Events.{leaves, legAfter, endsCall, met}
 use Rattle.call.specs.Operations.{routed, chargeApplied}
 use Rattle.call.specs.Refusals.{row1Time, rowsOf}
+use Rattle.call.specs.Range.{recordInRange}
+use Rattle.call.specs.Step.{respondOf, stepOf}
 
 -- ---- relationship
 
@@ -241,3 +244,10 @@ lost-leg-met r p q t h k = ap (λ s. modeAt q (s .next .armings)) (goes-on (ends
 pub busy-spares-caller : (r : Record) (q : Role) (t : Tenths) → legOf q ≡ One → isOver (met r role.Busy t .answer) ≡ false
     → modeAt q (met r role.Busy t .next .armings) ≡ modeAt q (r .armings)
 busy-spares-caller r q t e h = lost-leg-met r role.Busy q t refl h ∙ ap (λ l. cond (eqb (legNumber l) 2) mode.None (modeAt q (r .armings))) e
+
+-- ---- ranges
+
+-- on a record and an item in range, `step` is `respond`
+pub step-respond : (r : Record) (i : Item) (rest : List ℕ) → recordInRange r ≡ true → itemInRange i rest ≡ true → stepOf r i rest ≡ respondOf r i rest
+unfolding stepOf
+step-respond r i rest h g = rw (g, h)

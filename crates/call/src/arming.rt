@@ -43,6 +43,7 @@ fn is_good(x: Named, seen: [bool; 10], e: Entry) -> bool
     }
 }
 
+// The roles named so far, and this one.
 fn see(x: Named, seen: [bool; 10]) -> [bool; 10]
     ensures { λ r. ⌜ r ≡ seenAfter x seen ⌝ }
 {
@@ -57,6 +58,7 @@ fn see(x: Named, seen: [bool; 10]) -> [bool; 10]
     }
 }
 
+// A Connect may follow where leg 2 is absent.
 fn can_occur(r: Record, p: Role) -> bool
     ensures { λ b. ⌜ b ≡ canOccur r p ⌝ }
 {
@@ -97,11 +99,7 @@ pub(crate) fn entries_refusal(r: Record, n: u8, t: &[u8]) -> Check
             return Check::Fail(11);
         }
     }
-    if possible {
-        Check::Pass
-    } else {
-        Check::Fail(12)
-    }
+    answers::refuse_if(!possible, 12, Check::Pass)
 }
 
 fn kept_after(timer: Seconds, kept: Seconds) -> Seconds

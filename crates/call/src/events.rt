@@ -27,6 +27,7 @@ pub(crate) fn clear_of(leg: Leg, s: Stage) -> Role
     }
 }
 
+// While held, only a Clear of leg 1 is accepted.
 pub(crate) fn is_clear_of_1(p: Role) -> bool
     ensures { λ r. ⌜ r ≡ isClearOf1 p ⌝ }
 {
@@ -109,6 +110,7 @@ fn by_mode(p: Role, m: Mode) -> ByMode
     }
 }
 
+// The role is met at t, its leg and stage allowing it.
 pub(crate) fn meet(r: Record, p: Role, t: Tenths) -> Stepped
     ensures { λ s. ⌜ s ≡ met r p t ⌝ }
 {

@@ -21,6 +21,7 @@ use crate::step::Kind;
 use forms::item::Leg;
 use forms::units::Tenths;
 
+// Rows 7, 9 and 12.
 fn event_refusal(r: Record, p: Role, t: Tenths) -> Check
     ensures { λ c. ⌜ c ≡ firstOf (rowsOf r (Kind.Event p) t []) ⌝ }
 {
@@ -31,6 +32,7 @@ fn event_refusal(r: Record, p: Role, t: Tenths) -> Check
     answers::refuse_if(t.0 < last.0, 7, answers::refuse_if(held, 9, possible))
 }
 
+// Rows 7, 12 and 14.
 fn period_refusal(r: Record, leg: Leg, t: Tenths) -> Check
     ensures { λ c. ⌜ c ≡ firstOf (rowsOf r (Kind.PeriodOver leg) t []) ⌝ }
 {
@@ -45,8 +47,8 @@ fn control_refusal(r: Record, t: Tenths, then: Check) -> Check
     ensures { λ c. ⌜ c ≡ cond (row7 r t .applies) (Check.Fail 7) (cond (row8 r .applies) (Check.Fail 8) then) ⌝ }
 {
     let last = r.last;
-    let by_relationship = answers::refuse_if(!relationship::has_control(r), 8, then);
-    answers::refuse_if(t.0 < last.0, 7, by_relationship)
+    let control = relationship::is_control(relationship::relationship_of(r));
+    answers::refuse_if(t.0 < last.0, 7, answers::refuse_if(!control, 8, then))
 }
 
 // Rows 7 and 8 of an operation that needs any relationship.
@@ -54,10 +56,15 @@ fn related_refusal(r: Record, t: Tenths) -> Check
     ensures { λ c. ⌜ c ≡ firstOf (row7 r t ∷ row8Any r ∷ []) ⌝ }
 {
     let last = r.last;
-    let by_relationship = answers::refuse_if(!relationship::has_relationship(r), 8, Check::Pass);
-    answers::refuse_if(t.0 < last.0, 7, by_relationship)
+    let related = relationship::is_related(relationship::relationship_of(r));
+    answers::refuse_if(
+        t.0 < last.0,
+        7,
+        answers::refuse_if(!related, 8, Check::Pass),
+    )
 }
 
+// Rows 12 and 13 of Apply charging.
 fn charging_refusal(r: Record, leg: Leg) -> Check
     ensures { λ c. ⌜ c ≡ firstOf (row12 (isPresent (r .leg1 .presence) && isPresent (legAt leg r .presence)) ∷ row13 r leg ∷ []) ⌝ }
 {
@@ -69,6 +76,7 @@ fn charging_refusal(r: Record, leg: Leg) -> Check
     answers::refuse_if(!possible, 12, pending)
 }
 
+// Rows 10 and 12 of Connect.
 fn connect_refusal(r: Record) -> Check
     ensures { λ c. ⌜ c ≡ firstOf (row10 r ∷ row12 (canConnect r) ∷ []) ⌝ }
 {

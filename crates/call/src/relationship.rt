@@ -84,10 +84,9 @@ pub(crate) fn relationship_of(r: Record) -> Relationship
     Relationship::None
 }
 
-pub(crate) fn has_control(r: Record) -> bool
-    ensures { λ b. ⌜ b ≡ isControl (relationshipOf r) ⌝ }
+pub(crate) fn is_control(x: Relationship) -> bool
+    ensures { λ r. ⌜ r ≡ isControl x ⌝ }
 {
-    let x = relationship_of(r);
     match x {
         Relationship::None => false,
         Relationship::Monitor => false,
@@ -95,10 +94,9 @@ pub(crate) fn has_control(r: Record) -> bool
     }
 }
 
-pub(crate) fn has_relationship(r: Record) -> bool
-    ensures { λ b. ⌜ b ≡ isRelated (relationshipOf r) ⌝ }
+pub(crate) fn is_related(x: Relationship) -> bool
+    ensures { λ r. ⌜ r ≡ isRelated x ⌝ }
 {
-    let x = relationship_of(r);
     match x {
         Relationship::None => false,
         Relationship::Monitor => true,

@@ -46,16 +46,9 @@ returns-2 c =
     let p = c .before .before in
     let a = p .before .before .args in
     let h = c .before .loop-test .left in
-    rw (sym (p .loop .inv .1) ∙ good-end (a .n) (p .loop .i) (a .t .now) h (p .loop .seen), sym (p .loop .inv .2) ∙ possible-end (a .n) (p .loop .i) (a .t .now) h (a .r) (p .loop .possible) ∙ c .if2 .taken)
-
-returns-3 : tie.Need-returns-3 Inv-loop μ-loop
-returns-3 c =
-    let p = c .before .before in
-    let a = p .before .before .args in
-    let h = c .before .loop-test .left in
-    rw (sym (p .loop .inv .1) ∙ good-end (a .n) (p .loop .i) (a .t .now) h (p .loop .seen), sym (p .loop .inv .2) ∙ possible-end (a .n) (p .loop .i) (a .t .now) h (a .r) (p .loop .possible) ∙ c .if2 .left)
+    rw (c .refuse-if .ensures, sym (p .loop .inv .1) ∙ good-end (a .n) (p .loop .i) (a .t .now) h (p .loop .seen), sym (p .loop .inv .2) ∙ possible-end (a .n) (p .loop .i) (a .t .now) h (a .r) (p .loop .possible))
 
 pub entries-refusal-spec : {M : Type 1} → statement M
 entries-refusal-spec =
     tie.close
-    (tie.spec Inv-loop μ-loop (λ c. (search needs, rw sub-zero, rw sub-zero)) (λ c κs. search needs) (λ c κs. search needs) (λ c κs. search needs) (λ c κs. search needs) (λ c κs. search needs) (λ c. search needs) (λ c. omega arith) loop-again returns returns-2 returns-3)
+    (tie.spec Inv-loop μ-loop (λ c. (search needs, rw sub-zero, rw sub-zero)) (λ c κs. search needs) (λ c κs. search needs) (λ c κs. search needs) (λ c κs. search needs) (λ c κs. search needs) (λ c. search needs) (λ c. omega arith) loop-again returns (λ c κs. search needs) returns-2)
