@@ -9,7 +9,7 @@ use Rattle.call.specs.Types.{Item, ReadItem, Record, Answer, Stepped}
 use Rattle.forms.specs.declared.item.ReadItem.the-variants as read
 use Rattle.call.specs.declared.answers.Answer.the-variants.{Accepted, Refused}
 use Rattle.call.specs.Answers.{firstOf, refused, guarded}
-use Rattle.call.specs.Refusals.{row2, row5}
+use Rattle.call.specs.Refusals.{row2}
 use Rattle.call.specs.Step.{isSetup, respondOf}
 use Rattle.call.specs.Setup.{openOf}
 
@@ -24,7 +24,7 @@ keep k s = (s .answer, remaining k (s .answer) (s .next))
 -- "Setup: first any refusal checked before 3; then 5 if a record is kept; else Triggering's answer, …, and a record"
 abbrev pub setupAlone : Option Record → Item → List ℕ → List ℕ → Answer × Option Record
 setupAlone none i rest profile = keep none (openOf i rest profile)
-setupAlone (some r) i rest profile = keep (some r) (guarded (firstOf (row2 profile ∷ row5 ∷ [])) r (refused r 5))
+setupAlone (some r) i rest profile = keep (some r) (guarded (firstOf (row2 profile ∷ [])) r (refused r 5))
 
 -- "Other items: 4 if nothing is kept; else the first of 7 to 14 that applies; else One call's answer and next record"
 abbrev pub otherAlone : Option Record → Item → List ℕ → Answer × Option Record
