@@ -12,7 +12,7 @@ use Rattle.forms.specs.Profile.{fieldsOf, profileBytes, profileInRange, numbers
 use Rattle.forms.proofs.Cases.{p2}
 use Rattle.forms.specs.declared.item.Leg.the-variants.{One, Two}
 use Rattle.forms.specs.declared.item.Body.the-variants as B
-use Rattle.call.specs.Types.{Body, Role, Hold, Report, ChargeReport, Deadline, Relationship, Record, Answer}
+use Rattle.call.specs.Types.{Body, Leg, Role, Hold, Report, Reports, ChargeReport, Deadline, Relationship, Record, Answer}
 use Rattle.call.specs.declared.points.Role.the-variants as P
 use Rattle.call.specs.declared.record.Hold.the-variants as H
 use Rattle.call.specs.declared.answers.Relationship.the-variants as R
@@ -20,12 +20,12 @@ use Rattle.call.specs.declared.answers.Report.the-variants.{None, Trigge
 use Rattle.call.specs.declared.answers.ChargeReport.the-variants as C
 use Rattle.call.specs.declared.answers.Deadline.the-variants as D
 use Rattle.call.specs.declared.answers.Answer.the-variants.{Accepted, Refused}
-use Rattle.call.specs.Answers.{reports}
+use Rattle.call.specs.Answers.{reports, silent}
 use Rattle.call.specs.Trigger.{triggers}
 use Rattle.call.specs.Relationship.{someArmed}
 use Rattle.call.specs.Arming.{entriesOf, areGood, arePossible, armedWith}
 use Rattle.call.specs.Events.{met}
-use Rattle.call.specs.Operations.{continued}
+use Rattle.call.specs.Operations.{continued, aborted}
 use Rattle.call.specs.Step.{respondOf}
 use Rattle.call.specs.Setup.{openOf}
 use Rattle.call.specs.Alone.{aloneStep}
@@ -62,12 +62,24 @@ along before (x ∷ xs) = record { before = before; last = x .0; answer = x .1 }
 
 -- ---- items of call 7
 
--- the listing example's profile; and one that stores 491, enabling. Both have default timer 120
+-- profiles with default timer 120: the listing example's; with default release; with 491 stored, of a sense; for four digits; for service 8; for forwarded calls
 abbrev plain : List ℕ
 plain = 0x00 ∷ 0x0A ∷ 0x01 ∷ 0x00 ∷ 0x78 ∷ 0x00 ∷ 0x00 ∷ 0x00 ∷ 0x00 ∷ 0x00 ∷ []
 
-abbrev stored491 : List ℕ
-stored491 = 0 ∷ 15 ∷ 1 ∷ 0 ∷ 120 ∷ 1 ∷ 1 ∷ 4 ∷ 3 ∷ 4 ∷ 9 ∷ 1 ∷ 0 ∷ 0 ∷ 0 ∷ []
+abbrev releasing : List ℕ
+releasing = 0 ∷ 10 ∷ 1 ∷ 1 ∷ 120 ∷ 0 ∷ 0 ∷ 0 ∷ 0 ∷ 0 ∷ []
+
+abbrev stored : ℕ → List ℕ
+stored sense = 0 ∷ 15 ∷ 1 ∷ 0 ∷ 120 ∷ sense ∷ 1 ∷ 4 ∷ 3 ∷ 4 ∷ 9 ∷ 1 ∷ 0 ∷ 0 ∷ 0 ∷ []
+
+abbrev fourDigits : List ℕ
+fourDigits = 0 ∷ 11 ∷ 1 ∷ 0 ∷ 120 ∷ 1 ∷ 0 ∷ 1 ∷ 4 ∷ 0 ∷ 0 ∷ []
+
+abbrev service8 : List ℕ
+service8 = 0 ∷ 11 ∷ 1 ∷ 0 ∷ 120 ∷ 0 ∷ 0 ∷ 0 ∷ 1 ∷ 8 ∷ 0 ∷ []
+
+abbrev forwarded : List ℕ
+forwarded = 0 ∷ 10 ∷ 1 ∷ 0 ∷ 120 ∷ 0 ∷ 0 ∷ 0 ∷ 0 ∷ 1 ∷ []
 
 abbrev itemWith : List ℕ → ℕ → Body → List ℕ → Fed
 itemWith profile t body rest = record { item = itemBytes (record { call = 7; time = record { 0 = t }; body = body }) rest; profile = profile }
@@ -85,8 +97,8 @@ setup profile digits = itemWith profile 1000 (B.Setup 4 0 false (length digits))
 abbrev connect : ℕ → Fed
 connect t = itemWith plain t (B.Connect 4 2) (4 ∷ 6 ∷ [])
 
-abbrev charge2 : ℕ → Fed
-charge2 period = item 1000 (B.ApplyCharging Two (record { 0 = period }))
+abbrev charge : Leg → ℕ → Fed
+charge leg period = item 1000 (B.ApplyCharging leg (record { 0 = period }))
 
 -- an entry: point, leg, mode, timer
 abbrev entry : ℕ → ℕ → ℕ → ℕ → List ℕ
@@ -97,13 +109,15 @@ arm t es = itemWith plain t (B.RequestReport (length es)) (flatten es)
 
 -- ---- answers, as the listing shows them
 
-abbrev ok : Relationship → Hold → Report → ChargeReport → Deadline → Bool → Answer
-ok relationship hold event charge deadline over =
-    Accepted (record { relationship = relationship; hold = hold; reports = reports event C.None charge; deadline = deadline; over = over })
+abbrev ok : Relationship → Hold → Reports → Deadline → Bool → Answer
+ok relationship hold reports deadline over = Accepted (record { relationship = relationship; hold = hold; reports = reports; deadline = deadline; over = over })
+
+abbrev elapsed : ℕ → ChargeReport
+elapsed n = C.Elapsed (record { 0 = n })
 
 -- "ok control 2 r2/1", "ok control 2", "ok control 6 r6/2"
 abbrev says : Relationship → Hold → Report → Answer
-says relationship hold event = ok relationship hold event C.None D.None false
+says relationship hold event = ok relationship hold (reports event C.None C.None) D.None false
 
 abbrev triggered : Answer
 triggered = says R.Control H.Trigger Trigger
@@ -116,14 +130,14 @@ interrupts p = says R.Control (H.At p) (Interrupting p)
 
 -- "ok control - d1300"
 abbrev routes : Relationship → ℕ → Answer
-routes relationship t = ok relationship H.None None C.None (D.At (record { 0 = t })) false
+routes relationship t = ok relationship H.None silent (D.At (record { 0 = t })) false
 
 -- "ok none - c2=600", "ok none - c2=123 over"; "ok none - n10/1 over"
 abbrev bills2 : ℕ → Bool → Answer
-bills2 n over = ok R.None H.None None (C.Elapsed (record { 0 = n })) D.None over
+bills2 n over = ok R.None H.None (reports None C.None (elapsed n)) D.None over
 
 abbrev ends : Report → Answer
-ends event = ok R.None H.None event C.None D.None true
+ends event = ok R.None H.None (reports event C.None C.None) D.None true
 
 -- ---- the runs
 
@@ -132,7 +146,7 @@ held = setup plain (4 ∷ 9 ∷ 1 ∷ 5 ∷ []) ∷ []
 
 -- period 600 on leg 2; answered at 5000 (P1)
 abbrev granted : List Fed
-granted = held ++ (charge2 600 ∷ go ∷ [])
+granted = held ++ (charge Two 600 ∷ go ∷ [])
 
 abbrev answered : List Fed
 answered = granted ++ (item 5000 B.Answer ∷ [])
@@ -156,11 +170,11 @@ runs =
     ++ along answered (item 5123 (B.Clear Two 16) ▸ bills2 123 true ∷ [])
     ++ along answered (item 5700 (B.Clear Two 16) ▸ bills2 600 true ∷ [])
     -- P6 stored 491 matches 4915 and 491, not 49
-    ++ along [] (setup stored491 (4 ∷ 9 ∷ 1 ∷ 5 ∷ []) ▸ triggered ∷ [])
-    ++ along [] (setup stored491 (4 ∷ 9 ∷ 1 ∷ []) ▸ triggered ∷ [])
-    ++ along [] (setup stored491 (4 ∷ 9 ∷ []) ▸ routes R.None 2200 ∷ [])
+    ++ along [] (setup (stored 1) (4 ∷ 9 ∷ 1 ∷ 5 ∷ []) ▸ triggered ∷ [])
+    ++ along [] (setup (stored 1) (4 ∷ 9 ∷ 1 ∷ []) ▸ triggered ∷ [])
+    ++ along [] (setup (stored 1) (4 ∷ 9 ∷ []) ▸ routes R.None 2200 ∷ [])
     -- P7 period 864000 accepted, 864001 and 0 malformed
-    ++ along held (charge2 864001 ▸ Refused 1 ∷ charge2 0 ▸ Refused 1 ∷ charge2 864000 ▸ at2 ∷ [])
+    ++ along held (charge Two 864001 ▸ Refused 1 ∷ charge Two 0 ▸ Refused 1 ∷ charge Two 864000 ▸ at2 ∷ [])
     -- P8, what one call shows: no open call is 4, a Setup for an open call 5
     ++ along [] (item 1000 B.Answer ▸ Refused 4 ∷ setup plain (4 ∷ []) ▸ triggered ∷ setup plain (4 ∷ []) ▸ Refused 5 ∷ [])
     -- P9 Busy leaves Abandon armed: Clear of leg 1 notifies it
@@ -196,9 +210,46 @@ runs =
     ∷ arm 5000 (entry 5 2 0 0 ∷ entry 9 3 0 0 ∷ []) ▸ Refused 11 ∷ arm 5000 (entry 5 2 0 0 ∷ []) ▸ Refused 12 ∷ [])
     -- 12 before 13: leg 1 absent, a charge pending on leg 2
     ++ along held
-    (arm 1000 (entry 10 1 0 0 ∷ []) ▸ at2 ∷ charge2 600 ▸ at2 ∷ charge2 600 ▸ Refused 13
-    ∷ item 1000 (B.Clear One 16) ▸ interrupts P.Abandon ∷ charge2 600 ▸ Refused 12 ∷ [])
+    (arm 1000 (entry 10 1 0 0 ∷ []) ▸ at2 ∷ charge Two 600 ▸ at2 ∷ charge Two 600 ▸ Refused 13
+    ∷ item 1000 (B.Clear One 16) ▸ interrupts P.Abandon ∷ charge Two 600 ▸ Refused 12 ∷ [])
+    -- triggering: inhibiting, a length, a service, forwarded calls only
+    ++ along [] (setup (stored 2) (4 ∷ 9 ∷ 1 ∷ 5 ∷ []) ▸ routes R.None 2200 ∷ [])
+    ++ along [] (setup (stored 2) (4 ∷ 9 ∷ []) ▸ triggered ∷ [])
+    ++ along [] (setup fourDigits (1 ∷ 2 ∷ 3 ∷ 4 ∷ []) ▸ triggered ∷ [])
+    ++ along [] (setup fourDigits (1 ∷ 2 ∷ 3 ∷ []) ▸ routes R.None 2200 ∷ [])
+    ++ along [] (itemWith service8 1000 (B.Setup 4 8 false 1) (4 ∷ []) ▸ triggered ∷ [])
+    ++ along [] (setup service8 (4 ∷ []) ▸ routes R.None 2200 ∷ [])
+    ++ along [] (itemWith forwarded 1000 (B.Setup 4 0 true 1) (4 ∷ []) ▸ triggered ∷ [])
+    ++ along [] (setup forwarded (4 ∷ []) ▸ routes R.None 2200 ∷ [])
+    -- two charges, of leg 1 first: at the end of the call, and for a caller who hangs up while the call is held
+    ++ along held
+    (charge One 100 ▸ at2 ∷ charge Two 600 ▸ at2 ∷ go ▸ routes R.Monitor 2200 ∷ item 5000 B.Answer ▸ says R.Monitor H.None None
+    ∷ item 5123 (B.Clear One 16) ▸ ok R.None H.None (reports None (elapsed 100) (elapsed 123)) D.None true ∷ [])
+    ++ along held
+    (charge One 100 ▸ at2 ∷ charge Two 600 ▸ at2 ∷ item 1000 (B.Clear One 16) ▸ ok R.None H.None (reports None (elapsed 0) (elapsed 0)) D.None true ∷ [])
+    -- Release with a charge; a charge lost at Busy, then Continue without leg 2; Period over while held; Activity test
+    ++ along held
+    (arm 1000 (entry 9 2 0 0 ∷ []) ▸ at2 ∷ charge Two 600 ▸ at2 ∷ go ▸ routes R.Control 2200 ∷ item 5000 B.Answer ▸ says R.Control H.None None
+    ∷ item 5050 B.Release ▸ bills2 50 true ∷ [])
+    ++ along held
+    (arm 1000 (entry 5 2 0 0 ∷ []) ▸ at2 ∷ charge Two 600 ▸ at2 ∷ go ▸ routes R.Control 2200
+    ∷ item 2000 (B.Busy 17) ▸ ok R.Control (H.At P.Busy) (reports (Interrupting P.Busy) C.None (elapsed 0)) D.None false ∷ item 2010 B.Continue ▸ ends None ∷ [])
+    ++ along held
+    (item 1000 B.ActivityTest ▸ at2 ∷ arm 1000 (entry 7 2 0 0 ∷ []) ▸ at2 ∷ charge Two 600 ▸ at2 ∷ go ▸ routes R.Control 2200 ∷ item 5000 B.Answer ▸ interrupts P.Answer
+    ∷ item 5600 (B.PeriodOver Two) ▸ ok R.Control (H.At P.Answer) (reports None C.None (elapsed 600)) D.None false ∷ [])
+    -- Abort: held at 2, the kept timer and the charge dropped; not held; with default release
+    ++ along held (arm 1000 (entry 6 2 0 30 ∷ []) ▸ at2 ∷ charge Two 600 ▸ at2 ∷ item 1000 B.Abort ▸ routes R.None 2200 ∷ [])
+    ++ along held (arm 1000 (entry 9 2 0 0 ∷ []) ▸ at2 ∷ go ▸ routes R.Control 2200 ∷ item 1000 B.Abort ▸ says R.None H.None None ∷ [])
+    ++ along [] (setup releasing (4 ∷ []) ▸ triggered ∷ charge Two 600 ▸ at2 ∷ item 1000 B.Abort ▸ ends None ∷ [])
+    -- mode 2 disarms; 50 takes no mode 0; any point can be armed without leg 2, none without leg 1, but for mode 2
+    ++ along held (arm 1000 (entry 5 2 0 0 ∷ []) ▸ at2 ∷ arm 1000 (entry 5 2 2 0 ∷ []) ▸ at2 ∷ arm 1000 (entry 50 1 0 0 ∷ []) ▸ Refused 11 ∷ go ▸ routes R.None 2200 ∷ [])
+    ++ along held
+    (arm 1000 (entry 9 2 0 0 ∷ []) ▸ at2 ∷ go ▸ routes R.Control 2200 ∷ item 5000 B.Answer ▸ says R.Control H.None None ∷ item 5100 (B.Clear Two 16) ▸ interrupts P.Disconnect2
+    ∷ arm 5100 (entry 4 2 1 0 ∷ []) ▸ says R.Control (H.At P.Disconnect2) None ∷ [])
+    ++ along held
+    (arm 1000 (entry 10 1 0 0 ∷ []) ▸ at2 ∷ item 1000 (B.Clear One 16) ▸ interrupts P.Abandon
+    ∷ arm 1000 (entry 9 2 1 0 ∷ []) ▸ Refused 12 ∷ arm 1000 (entry 9 2 2 0 ∷ []) ▸ says R.Control (H.At P.Abandon) None ∷ [])
 
 pub cases : map lastAnswer runs ≡ map (λ (c : Case). c .answer) runs
-unfolding flatten all contains leads same itemBytes itemInRange restAt bodyFrom bodyOf itemOf isItem readItem entryOf fieldsOf profileBytes profileInRange numbersAt numbersEnd viewAt profileOf isProfile someMatches triggers someArmed entriesOf areGood arePossible armedWith met continued respondOf openOf aloneStep
+unfolding flatten all contains leads same itemBytes itemInRange restAt bodyFrom bodyOf itemOf isItem readItem entryOf fieldsOf profileBytes profileInRange numbersAt numbersEnd viewAt profileOf isProfile someMatches triggers someArmed entriesOf areGood arePossible armedWith met continued aborted respondOf openOf aloneStep
 cases = refl

@@ -12,7 +12,7 @@ use Rattle.forms.specs.Bytes.{within, all, same}
 use Rattle.forms.specs.Fields.{Field, byte, nature, digitCount, isDigit, allInRange}
 use Rattle.forms.specs.Item.{formOf, restInRange, itemInRange, pad}
 use Rattle.forms.specs.Profile.{fieldsOf, profileBytes, senseInRange, profileInRange, profileOf, isProfile}
-use Rattle.forms.specs.Units.{isPeriod, isTimer}
+use Rattle.forms.specs.Units.{isClockReading, isPeriod, isTimer, isDefaultTimer}
 use Rattle.forms.specs.declared.item.Body.the-variants as body
 use Rattle.forms.specs.declared.item.Leg.the-variants.{One, Two}
 use Rattle.forms.proofs.ByteLaws.{and-left, and-right}
@@ -37,7 +37,7 @@ use Rattle.call.specs.Trigger.{triggers}
 use Rattle.call.specs.Events.{holdAfter, leaves, legAfter, endsCall, metRecord, met}
 use Rattle.call.specs.Operations.{resumed, continued, connected, dropped, isRelease, aborted, charged}
 use Rattle.call.specs.Refusals.{row1, row1Time, row2, row3, row7, rowsOf}
-use Rattle.call.specs.Range.{timeInRange, chargeInRange, holdInRange, placesInRange, numberInRange, recordInRange}
+use Rattle.call.specs.Range.{chargeInRange, holdInRange, placesInRange, numberInRange, recordInRange}
 use Rattle.call.specs.Step.{kindOf, served, respondOf, stepOf}
 use Rattle.call.specs.Setup.{opened, begun, openAs, openOf}
 use Rattle.call.proofs.Laws.{passes, no-row}
@@ -65,16 +65,16 @@ pub record Fits (r : Record) : Type 0 where
   pub leg1 : chargeInRange (r .leg1 .charge) (r .last) ≡ true
   pub leg2 : chargeInRange (r .leg2 .charge) (r .last) ≡ true
   pub hold : holdInRange (r .hold) ≡ true
-  pub last : timeInRange (r .last) ≡ true
+  pub last : isClockReading (r .last) ≡ true
   pub armings : calm (modeAt role.Moved (r .armings)) ≡ true
   pub kept : isTimer (r .kept) ≡ true
-  pub timer : within 10 180 (r .timer .0) ≡ true
+  pub timer : isDefaultTimer (r .timer) ≡ true
   pub number : numberInRange (r .number) ≡ true
 
 pub fits : (r : Record) → recordInRange r ≡ true → Fits r
 unfolding recordInRange
 fits r h =
-    let f = each (chargeInRange (r .leg1 .charge) (r .last)) (chargeInRange (r .leg2 .charge) (r .last) ∷ holdInRange (r .hold) ∷ timeInRange (r .last) ∷ calm (modeAt role.Moved (r .armings)) ∷ isTimer (r .kept) ∷ within 10 180 (r .timer .0) ∷ numberInRange (r .number) ∷ []) h in
+    let f = each (chargeInRange (r .leg1 .charge) (r .last)) (chargeInRange (r .leg2 .charge) (r .last) ∷ holdInRange (r .hold) ∷ isClockReading (r .last) ∷ calm (modeAt role.Moved (r .armings)) ∷ isTimer (r .kept) ∷ isDefaultTimer (r .timer) ∷ numberInRange (r .number) ∷ []) h in
     record { leg1 = f 0; leg2 = f 1; hold = f 2; last = f 3; armings = f 4; kept = f 5; timer = f 6; number = f 7 }
 
 pub in-range : (r : Record) → Fits r → recordInRange r ≡ true
@@ -135,7 +135,7 @@ leg-after-fits p l s a t h le = go (leaves p l) (isRole p role.Answer)
     go false true = answered-fits (s .charge) a t h le
     go false false = later (s .charge) a t h le
 
-timed-fits : (r : Record) (t : Tenths) → Fits r → timeInRange t ≡ true → r .last .0 ≤ t .0 → Fits (timed r t)
+timed-fits : (r : Record) (t : Tenths) → Fits r → isClockReading t ≡ true → r .last .0 ≤ t .0 → Fits (timed r t)
 timed-fits r t f o le = record {
   leg1 = later (r .leg1 .charge) (r .last) t (f .leg1) le;
   leg2 = later (r .leg2 .charge) (r .last) t (f .leg2) le;
@@ -289,7 +289,7 @@ guarded-left Pass r s t h = h refl
 guarded-left (Fail n) r s t h = refl
 
 -- not over, and not earlier than the last time
-module _ (r : Record) (t : Tenths) (f : Fits r) (o : timeInRange t ≡ true) (le : r .last .0 ≤ t .0) where
+module _ (r : Record) (t : Tenths) (f : Fits r) (o : isClockReading t ≡ true) (le : r .last .0 ≤ t .0) where
   timely : Fits (timed r t)
   timely = timed-fits r t f o le
 
@@ -323,7 +323,7 @@ module _ (r : Record) (t : Tenths) (f : Fits r) (o : timeInRange t ≡ true) (le
       (goes (armedAs next (next .armings) (record { 0 = 0 })) t (armed-fits next g (next .armings) (record { 0 = 0 }) (g .armings) refl) refl)
       (goes next t g refl)) refl
 
-module _ (r : Record) (t : Tenths) (rest : List ℕ) (f : Fits r) (o : timeInRange t ≡ true) where
+module _ (r : Record) (t : Tenths) (rest : List ℕ) (f : Fits r) (o : isClockReading t ≡ true) where
   aborted-left : r .last .0 ≤ t .0 → isLeftWell t (aborted r t) ≡ true
   unfolding aborted
   aborted-left le =
@@ -372,9 +372,9 @@ respond-left r i rest h g =
     let k = kindOf (i .body) (r .stage) in
     let form = formOf (i .body) in
     let b = allInRange (form .fields) && restInRange (form .rest) rest in
-    let o = and-right b (timeInRange t) g in
+    let o = and-right b (isClockReading t) g in
     guarded-left (firstOf (row1Time t ∷ rowsOf r k t rest)) r (served r k t rest) t
-    (λ e. served-left r t rest (fits r h) o k (body-fits (i .body) (r .stage) rest (and-left b (timeInRange t) g)) (passes (row1Time t .applies) 1 (firstOf (rowsOf r k t rest)) e .1))
+    (λ e. served-left r t rest (fits r h) o k (body-fits (i .body) (r .stage) rest (and-left b (isClockReading t) g)) (passes (row1Time t .applies) 1 (firstOf (rowsOf r k t rest)) e .1))
 
 -- any item on any record: what is out of range is refused
 pub step-left : (r : Record) (i : Item) (rest : List ℕ) → isLeftWell (i .time) (stepOf r i rest) ≡ true
@@ -384,7 +384,7 @@ step-left r i rest =
     (λ e. let q = no-row (row1 i rest ∷ row3 r ∷ []) e in respond-left r i rest (not-false (recordInRange r) (q 1)) (not-false (itemInRange i rest) (q 0)))
 
 -- a Setup that opens a call
-begun-left : (b : Bool) (timer : Seconds) (handling : Handling) (n : Number) (t : Tenths) → within 10 180 (timer .0) ≡ true → timeInRange t ≡ true → numberInRange n ≡ true → isLeftWell t (begun b timer handling n t) ≡ true
+begun-left : (b : Bool) (timer : Seconds) (handling : Handling) (n : Number) (t : Tenths) → isDefaultTimer timer ≡ true → isClockReading t ≡ true → numberInRange n ≡ true → isLeftWell t (begun b timer handling n t) ≡ true
 begun-left b timer handling n t h o g = go b
   where
     new : (x : Hold) → holdInRange x ≡ true → Fits (opened timer handling n x t)
@@ -400,14 +400,14 @@ field-at [] i h = refl
 field-at (x ∷ l) zero h = and-left (x .inRange) (allInRange l) h
 field-at (x ∷ l) (suc i) h = field-at l i (and-right (x .inRange) (allInRange l) h)
 
-profile-fits : (s : List ℕ) → isProfile (profileOf s) s ≡ true → within 10 180 (profileOf s .timer .0) ≡ true
+profile-fits : (s : List ℕ) → isProfile (profileOf s) s ≡ true → isDefaultTimer (profileOf s .timer) ≡ true
 unfolding isProfile profileInRange fieldsOf
 profile-fits s h =
     let p = profileOf s in
     let g = and-right (same (profileBytes p) s) (profileInRange p) h in
     field-at (fieldsOf p) 1 (and-left (allInRange (fieldsOf p)) (senseInRange (p .sense) (length (p .numbers) + length (p .lengths))) g)
 
-open-as-left : (k : Kind) (s : List ℕ) (t : Tenths) (rest : List ℕ) → timeInRange t ≡ true → asksFit k rest ≡ true → isLeftWell t (openAs k s t rest) ≡ true
+open-as-left : (k : Kind) (s : List ℕ) (t : Tenths) (rest : List ℕ) → isClockReading t ≡ true → asksFit k rest ≡ true → isLeftWell t (openAs k s t rest) ≡ true
 open-as-left (kind.Setup n v w c) s t rest o a =
     let p = profileOf s in
     guarded-left (firstOf (row2 s ∷ [])) _ (begun (triggers p n v w rest) (p .timer) (p .handling) (numberOf n c rest) t) t
@@ -430,5 +430,5 @@ open-left i rest s =
     let form = formOf (i .body) in
     let b = allInRange (form .fields) && restInRange (form .rest) rest in
     guarded-left (firstOf (row1 i rest ∷ [])) _ (openAs k s t rest) t
-    (λ e. let g = not-false (b && timeInRange t) (no-row (row1 i rest ∷ []) e 0) in
-    open-as-left k s t rest (and-right b (timeInRange t) g) (body-fits (i .body) Analysing rest (and-left b (timeInRange t) g)))
+    (λ e. let g = not-false (b && isClockReading t) (no-row (row1 i rest ∷ []) e 0) in
+    open-as-left k s t rest (and-right b (isClockReading t) g) (body-fits (i .body) Analysing rest (and-left b (isClockReading t) g)))

@@ -27,7 +27,7 @@ use Rattle.call.specs.Arming.{entriesOf, named, isModeFor, isGood, seenA
 use Rattle.call.specs.Refusals.{row1Time, rowsOf}
 use Rattle.call.specs.Step.{respondOf}
 use Rattle.call.proofs.Laws.{same-tenths, no-row}
-use Rattle.call.proofs.CallLaws.{place-injective}
+use Rattle.call.proofs.CallTheorems.{place-injective}
 
 -- ---- the statement's words
 

@@ -6,7 +6,7 @@ use Rattle.call.specs.Types.{Tenths, Record, Report, ChargeReport, Repor
 use Rattle.call.specs.declared.record.Hold.the-variants as hold
 use Rattle.call.specs.declared.answers.Relationship.the-variants as relationship
 use Rattle.call.specs.declared.answers.Report.the-variants as report
-use Rattle.call.specs.declared.answers.ChargeReport.the-variants as charge
+use Rattle.call.specs.declared.answers.ChargeReport.the-variants as due
 use Rattle.call.specs.declared.answers.Deadline.the-variants as deadline
 use Rattle.call.specs.declared.answers.Answer.the-variants.{Accepted, Refused}
 use Rattle.call.specs.declared.answers.Check.the-variants.{Pass, Fail}
@@ -19,7 +19,7 @@ abbrev pub reports : Report → ChargeReport → ChargeReport → Reports
 reports event charge1 charge2 = record { event = event; charge1 = charge1; charge2 = charge2 }
 
 abbrev pub silent : Reports
-silent = reports report.None charge.None charge.None
+silent = reports report.None due.None due.None
 
 -- the call goes on with the record next
 abbrev pub goesOn : Record → Reports → Deadline → Stepped

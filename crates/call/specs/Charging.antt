@@ -5,7 +5,7 @@ use lib.Dec.{ltb}
 use Rattle.call.specs.Types.{Tenths, Presence, Charge, LegState, Stage, ChargeReport}
 use Rattle.call.specs.declared.record.Presence.the-variants.{Absent, Present}
 use Rattle.call.specs.declared.record.Charge.the-variants as charge
-use Rattle.call.specs.declared.answers.ChargeReport.the-variants as report
+use Rattle.call.specs.declared.answers.ChargeReport.the-variants as due
 use Rattle.call.specs.Points.{isActive}
 
 -- ---- a leg: absent or present, and its pending charge
@@ -49,6 +49,6 @@ isBeforeEnd (charge.Running period start) t = ltb (t .0) (start .0 + period .0)
 -- ---- the report of a charge that is removed: "Elapsed = smaller of (time − start) and period, 0 if not started."
 
 abbrev pub reportOf : Tenths → Charge → ChargeReport
-reportOf t charge.None = report.None
-reportOf t (charge.Waiting period) = report.Elapsed (record { 0 = 0 })
-reportOf t (charge.Running period start) = report.Elapsed (record { 0 = min (t .0 - start .0) (period .0) })
+reportOf t charge.None = due.None
+reportOf t (charge.Waiting period) = due.Elapsed (record { 0 = 0 })
+reportOf t (charge.Running period start) = due.Elapsed (record { 0 = min (t .0 - start .0) (period .0) })

@@ -45,7 +45,7 @@ holdAfter p mode.Notify = hold.None
 abbrev pub leaves : Role → Leg → Bool
 leaves p l = losesLeg p && isOnLeg p l
 
--- an absent leg has no charge; Answer starts the clocks that wait
+-- a leg that becomes absent keeps no charge; Answer starts the clocks that wait
 abbrev pub legAfter : Role → Leg → Tenths → LegState → LegState
 legAfter p l t s =
     cond (leaves p l) (leg Absent charge.None) (leg (s .presence) (cond (isRole p Answer) (answered t (s .charge)) (s .charge)))

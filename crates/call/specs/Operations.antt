@@ -68,7 +68,7 @@ aborted r t =
 
 -- ---- charging
 
--- the charge c, pending on the leg l
+-- the charge of the leg l becomes c, the last time t
 abbrev pub charged : Record → Leg → Charge → Tenths → Record
 charged r l c t = withLeg l (timed r t) (leg (legAt l r .presence) c)
 

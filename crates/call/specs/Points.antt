@@ -14,7 +14,7 @@ use Rattle.call.specs.declared.points.Span.the-variants as span
 use Rattle.call.specs.declared.record.Stage.the-variants.{Analysing, Alerting, Active}
 use Rattle.call.specs.declared.record.Mode.the-variants as mode
 
--- ---- stages (PICs), and spans of them
+-- ---- stages (each one or more PICs), and spans of them
 
 abbrev pub isAnalysing : Stage → Bool
 isAnalysing Analysing = true

@@ -5,7 +5,7 @@ use mathlib.Core.List.{List, [], _∷_}
 use lib.Dec.{leb, ltb, eqb}
 use Rattle.forms.specs.Bytes.{within}
 use Rattle.forms.specs.Fields.{nature, digitCount, isDigit}
-use Rattle.forms.specs.Units.{clockEnd, isPeriod, isTimer}
+use Rattle.forms.specs.Units.{isClockReading, isPeriod, isTimer, isDefaultTimer}
 use Rattle.call.specs.Types.{Tenths, Charge, Hold, Number, Record}
 use Rattle.call.specs.declared.points.Role.the-variants.{Moved}
 use Rattle.call.specs.declared.record.Charge.the-variants as charge
@@ -13,10 +13,6 @@ use Rattle.call.specs.declared.record.Mode.the-variants as mode
 use Rattle.call.specs.declared.record.Hold.the-variants as hold
 use Rattle.call.specs.Points.{isRole, modeAt}
 use Rattle.call.specs.Relationship.{isMode}
-
--- "times below 2^48"
-abbrev pub timeInRange : Tenths → Bool
-timeInRange t = ltb (t .0) clockEnd
 
 -- a period "as in Forms"; no "start later than last time"
 abbrev pub chargeInRange : Charge → Tenths → Bool
@@ -39,9 +35,9 @@ placesInRange (suc count) (d ∷ ds) = isDigit d && placesInRange count ds
 unfoldable pub numberInRange : Number → Bool
 numberInRange n = nature (n .nature) .inRange && digitCount (n .count) .inRange && placesInRange (n .count) (n .digits)
 
--- "kept timer 0..2047; an arming none, 0 or 1 (50 never 0)"; "all else as in Forms"
+-- "times below 2^48; kept timer 0..2047; an arming none, 0 or 1 (50 never 0)"; "all else as in Forms"
 unfoldable pub recordInRange : Record → Bool
 recordInRange r =
     chargeInRange (r .leg1 .charge) (r .last) && chargeInRange (r .leg2 .charge) (r .last) && holdInRange (r .hold)
-    && timeInRange (r .last) && not (isMode (modeAt Moved (r .armings)) mode.Interrupted) && isTimer (r .kept)
-    && within 10 180 (r .timer .0) && numberInRange (r .number)
+    && isClockReading (r .last) && not (isMode (modeAt Moved (r .armings)) mode.Interrupted) && isTimer (r .kept)
+    && isDefaultTimer (r .timer) && numberInRange (r .number)

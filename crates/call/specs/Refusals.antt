@@ -5,6 +5,7 @@ use mathlib.Core.List.{List, [], _∷_}
 use lib.Dec.{ltb}
 use Rattle.forms.specs.Item.{itemInRange}
 use Rattle.forms.specs.Profile.{profileOf, isProfile}
+use Rattle.forms.specs.Units.{isClockReading}
 use Rattle.call.specs.Types.{Leg, Item, Entry, Tenths, Role, Record, Kind}
 use Rattle.call.specs.declared.step.Kind.the-variants as kind
 use Rattle.call.specs.Charging.{isPresent, isPending, isStarted, isBeforeEnd}
@@ -14,14 +15,14 @@ use Rattle.call.specs.Answers.{Row, row}
 use Rattle.call.specs.Arming.{entriesOf, areGood, noneSeen, arePossible}
 use Rattle.call.specs.Events.{isClearOf1, canMeet}
 use Rattle.call.specs.Operations.{canConnect}
-use Rattle.call.specs.Range.{timeInRange, recordInRange}
+use Rattle.call.specs.Range.{recordInRange}
 
 -- "item malformed": a value out of range; of the time alone
 abbrev pub row1 : Item → List ℕ → Row
 row1 i rest = row 1 (not (itemInRange i rest))
 
 abbrev pub row1Time : Tenths → Row
-row1Time t = row 1 (not (timeInRange t))
+row1Time t = row 1 (not (isClockReading t))
 
 -- "profile malformed (Setup)"
 abbrev pub row2 : List ℕ → Row

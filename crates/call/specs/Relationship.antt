@@ -26,7 +26,7 @@ unfoldable pub someArmed : Mode → List Arming → Bool
 someArmed m [] = false
 someArmed m (a ∷ l) = isMode (a .mode) m || someArmed m l
 
--- held: at 2, where Triggering holds it (Waiting_For_Instructions), or at a met point
+-- held (Waiting_For_Instructions): at 2, or at a met point
 abbrev pub isHeld : Hold → Bool
 isHeld hold.None = false
 isHeld hold.Trigger = true

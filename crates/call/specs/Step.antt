@@ -1,4 +1,4 @@
--- Document 01, One call: an item's answer and the next record, for a call that is open and for one that a Setup opens.
+-- Document 01, One call: an item's answer and the next record, for a call that is open.
 use Prim.Native.Nat.{ℕ}
 use mathlib.Core.Bool.{Bool}
 use mathlib.Core.List.{List, [], _∷_}
@@ -40,7 +40,7 @@ kindOf body.Abort s = kind.Abort
 abbrev pub isSetup : Item → Bool
 isSetup i = eqb (formOf (i .body) .kind) 1
 
--- ---- an accepted item's answer and next record; its digits or entries stand in `rest`
+-- ---- an accepted item's answer and next record; its digits or entries stand in `rest`. (A Setup is not accepted: row 5.)
 
 abbrev pub served : Record → Kind → Tenths → List ℕ → Stepped
 served r (kind.Setup nature service forwarded count) t rest = refused r 5
@@ -54,7 +54,7 @@ served r (kind.ApplyCharging l period) t rest = chargeApplied r l period t
 served r kind.ActivityTest t rest = quietly (timed r t)
 served r kind.Abort t rest = aborted r t
 
--- refusals 5 and 7 to 14, and the answer where none applies. Ranges are not looked at, but for the time's
+-- refusals 5 and 7 to 14, 1 for the time alone, and the answer where none applies
 abbrev pub respondAs : Record → Kind → Tenths → List ℕ → Stepped
 respondAs r k t rest = guarded (firstOf (row1Time t ∷ rowsOf r k t rest)) r (served r k t rest)
 

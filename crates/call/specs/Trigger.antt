@@ -9,7 +9,7 @@ use Rattle.forms.specs.Profile.{Profile, someMatches}
 use Rattle.call.specs.Types.{Criterion}
 use Rattle.forms.specs.declared.profile.Criterion.the-variants.{Absent, Enabling, Inhibiting}
 
--- a criterion that is present: enabling wants what it asks for, inhibiting wants it not to be
+-- a criterion holds if it is absent, enabling and b is so, or inhibiting and b is not
 abbrev pub holds : Criterion → Bool → Bool
 holds Absent b = true
 holds Enabling b = b

@@ -4,7 +4,7 @@ ghost use mathlib.Core.Bool.{_&&_};
 ghost use mathlib.Core.List.{[], _∷_};
 ghost use Rattle.call.specs.Answers.{firstOf};
 ghost use Rattle.call.specs.Refusals.{row11, row12};
-ghost use Rattle.call.specs.Arming.{entriesOf, isModeFor, isTimerFor, isGood, seenAfter, areGood, noneSeen, canOccur, isPossible, arePossible, keptAfter, armedBy, armedWith, requestReport};
+ghost use Rattle.call.specs.Arming.{entriesOf, isModeFor, isTimerFor, isGood, seenAfter, canOccur, isPossible, arePossible, keptAfter, armedBy, armedWith, requestReport};
 use crate::answers;
 use crate::answers::*;
 use crate::charging;
@@ -27,7 +27,7 @@ fn is_fit(p: Role, m: u8, t: Seconds) -> bool
     ((m <= 2) & !(moved & (m == 0))) & ((t.0 <= Seconds::LONGEST_TIMER.0) & ((t.0 == 0) | timed))
 }
 
-// Refusal 11, of one entry: the roles that entries before it have named are `seen`.
+// Refusal 11 does not apply to the entry. `seen` are the roles that entries before it have named.
 fn is_good(x: Named, seen: [bool; 10], e: Entry) -> bool
     ensures { λ r. ⌜ r ≡ isGood x seen e ⌝ }
 {
@@ -70,7 +70,7 @@ fn can_occur(r: Record, p: Role) -> bool
     charging::is_present(leg1) & (!charging::is_present(leg2) | points::is_within(occurs, s))
 }
 
-// Refusal 12, of one entry.
+// Refusal 12 does not apply to the entry.
 fn is_possible(r: Record, x: Named, m: u8) -> bool
     ensures { λ b. ⌜ b ≡ isPossible r x m ⌝ }
 {

@@ -27,7 +27,7 @@ pub(crate) fn clear_of(leg: Leg, s: Stage) -> Role
     }
 }
 
-// While held, only a Clear of leg 1 is accepted.
+// The role is met by a Clear of leg 1.
 pub(crate) fn is_clear_of_1(p: Role) -> bool
     ensures { λ r. ⌜ r ≡ isClearOf1 p ⌝ }
 {

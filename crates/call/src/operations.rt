@@ -14,7 +14,7 @@ use forms::item::Leg;
 use forms::profile::Handling;
 use forms::units::*;
 
-pub(crate) fn deadline_after(t: Tenths, s: Seconds) -> Deadline
+fn deadline_after(t: Tenths, s: Seconds) -> Deadline
     requires { ⌜ t .0 < clockEnd ⌝ }
     ensures { λ d. ⌜ d ≡ after t s ⌝ }
 {

@@ -195,6 +195,7 @@ pub(crate) fn is_within(x: Span, s: Stage) -> bool
     }
 }
 
+// Places 0 to 3 are the roles of leg 1, 4 to 9 those of leg 2.
 fn without_leg1(a: [Arming; 10]) -> [Arming; 10]
     ensures { λ r. ⌜ r ≡ disarmed (onLeg leg.One roles) a ⌝ }
 {
@@ -221,6 +222,7 @@ fn without_leg2(a: [Arming; 10]) -> [Arming; 10]
     b
 }
 
+// Route failure, Busy, No answer and Answer, and Abandon.
 fn without_answered(a: [Arming; 10]) -> [Arming; 10]
     ensures { λ r. ⌜ r ≡ disarmed (disarms Role.Answer) a ⌝ }
 {

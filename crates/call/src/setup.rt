@@ -90,7 +90,7 @@ fn open_setup(
     }
 }
 
-// Any kind: what is no Setup meets no open call.
+// All but a Setup is 4.
 fn open_as(k: Kind, t: Tenths, rest: &[u8], s: &[u8]) -> Stepped
     requires { ⌜ (t .0 < clockEnd) × (length (now rest) < 256) ⌝ }
     ensures { λ r. ⌜ r ≡ openAs k (now (s .entry)) t (now (rest .entry)) ⌝ }

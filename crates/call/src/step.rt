@@ -1,4 +1,4 @@
-// One call's answer and next record for an item: the public functions of this layer (document 01, One call; A call by itself).
+// One call's answer and next record for an item (document 01, One call).
 ghost use mathlib.Core.Path.{_≡_};
 ghost use Prim.Native.Nat.{_<_};
 ghost use Rattle.forms.specs.Units.{clockEnd};
@@ -15,8 +15,6 @@ use crate::record::*;
 use crate::refusals;
 use forms::item;
 use forms::item::*;
-use forms::profile::Handling;
-use forms::profile::ReadProfile;
 use forms::units::*;
 
 // What an item asks of a call: an event is the role that it meets.
@@ -85,7 +83,7 @@ fn serve(r: Record, k: Kind, t: Tenths, rest: &[u8]) -> Stepped
     }
 }
 
-// Refusals 5 and 7 to 14, and the answer where none applies. For an owner who knows that the record and the item are in range: only the time is looked at.
+// Refusals 5 and 7 to 14, and the answer where none applies. For an owner who knows that the record and the item are in range: of the ranges only the time's is looked at.
 pub fn respond(r: Record, item: Item, rest: &[u8]) -> Stepped
     ensures { λ s. ⌜ s ≡ respondOf r item (now (rest .entry)) ⌝ }
 {
@@ -104,7 +102,7 @@ pub fn respond(r: Record, item: Item, rest: &[u8]) -> Stepped
     }
 }
 
-// Any item for any record of an open call.
+// Any item for any record of an open call. A Setup is 5 here, whatever its profile: refusal 2 comes first, and is the caller's to give.
 pub fn step(r: Record, item: Item, rest: &[u8]) -> Stepped
     ensures { λ s. ⌜ s ≡ stepOf r item (now (rest .entry)) ⌝ }
 {

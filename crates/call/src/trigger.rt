@@ -3,7 +3,7 @@ ghost use mathlib.Core.Path.{_≡_};
 ghost use Prim.Native.Nat.{_<_};
 ghost use lib.ListN.{length};
 ghost use Rattle.forms.specs.Profile.{profileOf, viewOf};
-ghost use Rattle.call.specs.Trigger.{holds, numberHolds, serviceHolds, triggers};
+ghost use Rattle.call.specs.Trigger.{holds, serviceHolds, triggers};
 use forms::bytes;
 use forms::profile;
 use forms::profile::Criterion;

@@ -5,7 +5,7 @@ use mathlib.Core.Bool.{Bool, _&&_, cond}
 use lib.ListN.{length, getD, drop}
 use lib.Dec.{ltb, leb, eqb}
 use Rattle.forms.specs.Bytes.{toBytes, fromBytes, same}
-use Rattle.forms.specs.Units.{clockEnd}
+use Rattle.forms.specs.Units.{isClockReading}
 use Rattle.forms.specs.Fields.{Field, nature, service, forwarded, digitCount, digits, digit, cause, leg, entryCount, period, bytesIn, allInRange, frame, framed}
 use Rattle.forms.specs.declared.item.Leg.{Leg}
 use Rattle.forms.specs.declared.item.Leg.the-variants.{One, Two}
@@ -67,7 +67,7 @@ itemBytes i t = framed (formOf (i .body) .kind ∷ (toBytes 4 (i .call) ++ (toBy
 
 -- every field is in its range, and t is what follows
 unfoldable pub itemInRange : Item → List ℕ → Bool
-itemInRange i t = (allInRange (formOf (i .body) .fields) && restInRange (formOf (i .body) .rest) t) && ltb (i .time .0) clockEnd
+itemInRange i t = (allInRange (formOf (i .body) .fields) && restInRange (formOf (i .body) .rest) t) && isClockReading (i .time)
 
 -- where the digits or the entries begin
 unfoldable pub restAt : Body → ℕ

@@ -5,6 +5,7 @@ use mathlib.Core.Bool.{Bool, true, false, _&&_, _||_, cond}
 use lib.ListN.{length, getD}
 use lib.Dec.{leb, eqb}
 use Rattle.forms.specs.Bytes.{within, part, all, leads, same}
+use Rattle.forms.specs.Units.{isDefaultTimer}
 use Rattle.forms.specs.Fields.{Field, byte, run, nature, digitCount, digits, bytesIn, allInRange, framed}
 use Rattle.forms.specs.declared.units.Seconds.{Seconds}
 use Rattle.forms.specs.declared.profile.Handling.{Handling}
@@ -66,7 +67,7 @@ listFields p =
 unfoldable pub fieldsOf : Profile → List Field
 fieldsOf p =
     byte (handlingNumber (p .handling)) true
-    ∷ byte (p .timer .0) (within 10 180 (p .timer .0))
+    ∷ byte (p .timer .0) (isDefaultTimer (p .timer))
     ∷ byte (criterionNumber (p .sense)) true
     ∷ upTo 10 (length (p .numbers))
     ∷ numberFields (p .numbers) ++ listFields p

@@ -1,7 +1,7 @@
 -- Document 01, Units: tenths of a second and whole seconds, each with its ceiling, and the one way across.
 use Prim.Native.Nat.{ℕ, _*_}
 use mathlib.Core.Bool.{Bool, cond}
-use lib.Dec.{leb}
+use lib.Dec.{leb, ltb}
 use Rattle.forms.specs.Bytes.{within}
 use Rattle.forms.specs.declared.units.Tenths.{Tenths}
 use Rattle.forms.specs.declared.units.Seconds.{Seconds}
@@ -21,6 +21,9 @@ longestTimer = 2047
 abbrev pub clockEnd : ℕ
 clockEnd = 281474976710656
 
+abbrev pub isClockReading : Tenths → Bool
+isClockReading t = ltb (t .0) clockEnd
+
 -- a charged period (maxCallPeriodDuration), 1..864000
 abbrev pub isPeriod : Tenths → Bool
 isPeriod p = within 1 longestPeriod (p .0)
@@ -34,6 +37,10 @@ isTimer t = leb (t .0) longestTimer
 
 abbrev pub timerOf : ℕ → Timer
 timerOf n = let t : Seconds = record { 0 = n } in cond (isTimer t) (T.Of t) (T.Refused 11)
+
+-- a profile's default timer, "10..180 seconds"
+abbrev pub isDefaultTimer : Seconds → Bool
+isDefaultTimer t = within 10 180 (t .0)
 
 -- "the only way across is seconds × 10 = tenths"
 abbrev pub tenthsOf : Seconds → Tenths
