@@ -3,7 +3,7 @@ use Prim.Native.Nat.{ℕ, zero, suc, _+_, _*_}
 use mathlib.Core.List.{List, [], _∷_, _++_}
 use mathlib.Core.Bool.{Bool, _&&_, cond}
 use lib.ListN.{length, getD, drop}
-use lib.Dec.{ltb, leb, eqb}
+use lib.Dec.{leb, eqb}
 use Rattle.forms.specs.Bytes.{toBytes, fromBytes, same}
 use Rattle.forms.specs.Units.{isClockReading}
 use Rattle.forms.specs.Fields.{Field, nature, service, forwarded, digitCount, digits, digit, cause, leg, entryCount, period, bytesIn, allInRange, frame, framed}
@@ -96,8 +96,11 @@ unfoldable pub bodyOf : ℕ → List ℕ → Body
 bodyOf n b = bodyFrom n (getD b 0 0) (getD b 1 0) (getD b 2 0) (getD b 3 0) (legOf (eqb (getD b 0 0) 2)) (fromBytes 4 (drop 1 b))
 
 -- the values at their places, whatever the bytes are
+abbrev pub callIn : List ℕ → ℕ
+callIn s = fromBytes 4 (drop 4 s)
+
 unfoldable pub itemOf : List ℕ → Item
-itemOf s = record { call = fromBytes 4 (drop 4 s); time = record { 0 = fromBytes 6 (drop 8 s) }; body = bodyOf (getD s 3 0) (drop 14 s) }
+itemOf s = record { call = callIn s; time = record { 0 = fromBytes 6 (drop 8 s) }; body = bodyOf (getD s 3 0) (drop 14 s) }
 
 -- the digits or the entries of the body b, in the item's bytes
 abbrev pub restOf : Body → List ℕ → List ℕ

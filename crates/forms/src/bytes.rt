@@ -34,7 +34,7 @@ pub(crate) fn size(n: u8) -> usize
 }
 
 // The numbers that the first 2, 4 and 6 bytes are.
-pub(crate) fn number2(s: &[u8]) -> usize
+pub fn number2(s: &[u8]) -> usize
     ensures { λ r. ⌜ (r ≡ fromBytes 2 (now (s .entry))) × (r < 65536) ⌝ }
 {
     size(at(s, 0)) * 256 + size(at(s, 1))

@@ -8,7 +8,7 @@ ghost use lib.Dec.{ltb};
 ghost use Rattle.forms.specs.Bytes.{toBytes};
 ghost use Rattle.forms.specs.Units.{clockEnd};
 ghost use Rattle.forms.specs.Fields.{legNumber};
-ghost use Rattle.forms.specs.Item.{formOf, restInRange, legOf, bodyFrom, itemOf, itemInRange, isItem, readItem, readItemAt, entryOf, readEntry, fixed, fixedOf};
+ghost use Rattle.forms.specs.Item.{formOf, restInRange, legOf, bodyFrom, callIn, itemOf, itemInRange, isItem, readItem, readItemAt, entryOf, readEntry, fixed, fixedOf};
 use crate::bytes;
 use crate::fields;
 use crate::units::Seconds;
@@ -217,6 +217,13 @@ fn body_from(n: u8, b0: u8, b1: u8, b2: u8, b3: u8, leg: Leg, p: u64) -> Body
     }
 }
 
+// The call's number, whatever the bytes are.
+pub fn call_in(s: &[u8]) -> u32
+    ensures { λ r. ⌜ r ≡ callIn (now (s .entry)) ⌝ }
+{
+    bytes::number4(bytes::from(s, 4)) as u32
+}
+
 // The values at their places, whatever the bytes are.
 fn item_of(s: &[u8]) -> Item
     ensures { λ r. ⌜ r ≡ itemOf (now (s .entry)) ⌝ }
@@ -233,7 +240,7 @@ fn item_of(s: &[u8]) -> Item
         bytes::number4(bytes::from(b, 1)) as u64,
     );
     Item {
-        call: bytes::number4(bytes::from(s, 4)) as u32,
+        call: call_in(s),
         time: Tenths(bytes::number6(bytes::from(s, 8)) as u64),
         body,
     }
