@@ -28,14 +28,9 @@ use Rattle.call.specs.Events.{met}
 use Rattle.call.specs.Operations.{continued, aborted}
 use Rattle.call.specs.Step.{respondOf}
 use Rattle.call.specs.Setup.{openOf}
-use Rattle.call.specs.Alone.{aloneStep}
+use Rattle.call.specs.Alone.{Fed, aloneStep}
 
 -- ---- what a case is
-
--- an item's bytes, and those of the profile (a Setup's)
-pub record Fed : Type 0 where
-  pub item : List ℕ
-  pub profile : List ℕ
 
 -- a run of a call by itself: what it is fed before, the last item, and the answer to that
 pub record Case : Type 0 where

@@ -13,6 +13,11 @@ use Rattle.call.specs.Refusals.{row2}
 use Rattle.call.specs.Step.{isSetup, respondOf}
 use Rattle.call.specs.Setup.{openOf}
 
+-- what is handed in: an item's bytes, and those of a profile (a Setup's)
+pub record Fed : Type 0 where
+  pub item : List ℕ
+  pub profile : List ℕ
+
 -- "or nothing when the call is over. A refusal leaves what is kept."
 abbrev pub remaining : Option Record → Answer → Record → Option Record
 remaining k (Refused n) next = k

@@ -2,17 +2,18 @@
 use Prim.Native.Nat.{ℕ, zero, suc}
 use mathlib.Core.Bool.{Bool, true, not, _&&_}
 use mathlib.Core.List.{List, [], _∷_}
-use lib.Dec.{leb, ltb, eqb}
-use Rattle.forms.specs.Bytes.{within}
+use lib.Dec.{leb, eqb}
 use Rattle.forms.specs.Fields.{nature, digitCount, isDigit}
 use Rattle.forms.specs.Units.{isClockReading, isPeriod, isTimer, isDefaultTimer}
-use Rattle.call.specs.Types.{Tenths, Charge, Hold, Number, Record}
+use Rattle.call.specs.Types.{Tenths, Charge, LegState, Arming, Hold, Number, Record}
 use Rattle.call.specs.declared.points.Role.the-variants.{Moved}
 use Rattle.call.specs.declared.record.Charge.the-variants as charge
 use Rattle.call.specs.declared.record.Mode.the-variants as mode
 use Rattle.call.specs.declared.record.Hold.the-variants as hold
-use Rattle.call.specs.Points.{isRole, modeAt}
-use Rattle.call.specs.Relationship.{isMode}
+use Rattle.call.specs.Points.{isAnalysing, isRole, modeAt}
+use Rattle.call.specs.Charging.{isPresent, isPending}
+use Rattle.call.specs.Relationship.{isMode, someArmed, isHeld}
+use Rattle.call.specs.Operations.{isRelease}
 
 -- a period "as in Forms"; no "start later than last time"
 abbrev pub chargeInRange : Charge → Tenths → Bool
@@ -41,3 +42,19 @@ recordInRange r =
     chargeInRange (r .leg1 .charge) (r .last) && chargeInRange (r .leg2 .charge) (r .last) && holdInRange (r .hold)
     && isClockReading (r .last) && not (isMode (modeAt Moved (r .armings)) mode.Interrupted) && isTimer (r .kept)
     && isDefaultTimer (r .timer) && numberInRange (r .number)
+
+-- ---- "A free record is blank: every field zero or none."
+
+abbrev pub isUnused : LegState → Bool
+isUnused l = not (isPresent (l .presence)) && not (isPending (l .charge))
+
+abbrev pub isUnarmed : List Arming → Bool
+isUnarmed a = not (someArmed mode.Interrupted a) && not (someArmed mode.Notify a)
+
+abbrev pub isNoNumber : Number → Bool
+isNoNumber n = eqb (n .nature) 0 && eqb (n .count) 0 && placesInRange 0 (n .digits)
+
+unfoldable pub isBlank : Record → Bool
+isBlank r =
+    isAnalysing (r .stage) && isUnused (r .leg1) && isUnused (r .leg2) && not (isHeld (r .hold)) && eqb (r .last .0) 0
+    && isUnarmed (r .armings) && eqb (r .kept .0) 0 && eqb (r .timer .0) 0 && not (isRelease (r .handling)) && isNoNumber (r .number)

@@ -116,7 +116,7 @@ fn drop_all(r: Record) -> Record
     s
 }
 
-fn is_release(h: Handling) -> bool
+pub(crate) fn is_release(h: Handling) -> bool
     ensures { λ b. ⌜ b ≡ isRelease h ⌝ }
 {
     match h {

@@ -3,7 +3,9 @@ ghost use mathlib.Core.Path.{_≡_};
 ghost use mathlib.Core.Bool.{cond};
 ghost use lib.Dec.{eqb};
 ghost use Rattle.forms.specs.Fields.{isDigit};
-ghost use Rattle.call.specs.Range.{chargeInRange, holdInRange, placesInRange, numberInRange, recordInRange};
+ghost use Rattle.call.specs.Range.{chargeInRange, holdInRange, placesInRange, numberInRange, recordInRange, isUnused, isUnarmed, isNoNumber, isBlank};
+use crate::charging;
+use crate::operations;
 use crate::points;
 use crate::points::Role;
 use crate::record::*;
@@ -84,4 +86,53 @@ pub fn record_in_range(r: Record) -> bool
         & (kept.0 <= Seconds::LONGEST_TIMER.0)
         & ((10 <= timer.0) & (timer.0 <= 180))
         & number_in_range(number)
+}
+
+// No field of the leg is set.
+fn is_unused(l: LegState) -> bool
+    ensures { λ b. ⌜ b ≡ isUnused l ⌝ }
+{
+    let c = l.charge;
+    !charging::is_present(l) & !charging::is_pending(c)
+}
+
+fn is_unarmed(a: [Arming; 10]) -> bool
+    ensures { λ b. ⌜ b ≡ isUnarmed a ⌝ }
+{
+    !relationship::some_armed(Mode::Interrupted, a) & !relationship::some_armed(Mode::Notify, a)
+}
+
+fn is_no_number(n: Number) -> bool
+    ensures { λ b. ⌜ b ≡ isNoNumber n ⌝ }
+{
+    let nature = n.nature;
+    let count = n.count;
+    let digits = n.digits;
+    (nature == 0) & (count == 0) & places_in_range(0, digits)
+}
+
+// Every field zero or none, as in a free record.
+pub fn is_blank(r: Record) -> bool
+    ensures { λ b. ⌜ b ≡ isBlank r ⌝ }
+{
+    let stage = r.stage;
+    let leg1 = r.leg1;
+    let leg2 = r.leg2;
+    let h = r.hold;
+    let last = r.last;
+    let a = r.armings;
+    let kept = r.kept;
+    let timer = r.timer;
+    let handling = r.handling;
+    let number = r.number;
+    points::is_analysing(stage)
+        & is_unused(leg1)
+        & is_unused(leg2)
+        & !relationship::is_held(h)
+        & (last.0 == 0)
+        & is_unarmed(a)
+        & (kept.0 == 0)
+        & (timer.0 == 0)
+        & !operations::is_release(handling)
+        & is_no_number(number)
 }

@@ -32,7 +32,7 @@ pub(crate) fn is_mode(m: Mode, n: Mode) -> bool
 }
 
 // Some point is armed in the mode.
-fn some_armed(m: Mode, a: [Arming; 10]) -> bool
+pub(crate) fn some_armed(m: Mode, a: [Arming; 10]) -> bool
     ensures { λ r. ⌜ r ≡ someArmed m a ⌝ }
 {
     let mut found = false;

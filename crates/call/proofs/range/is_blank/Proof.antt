@@ -1,0 +1,15 @@
+-- `range::is_blank` meets its contract.
+use borrow.Author.Needs.{needs}
+use Rattle.call.specs.Range.{isBlank}
+use Rattle.call.proofs.range.is_blank.Statement.{statement}
+use Rattle.call.proofs.range.is_blank.Tie as tie
+
+returns : tie.Need-returns
+unfolding isBlank
+returns c =
+    let u = c .before .before .before .before in
+    let h = u .before .before in
+    rw (c .is-no-number .ensures, c .before .is-release .ensures, u .is-unarmed .ensures, h .is-held .ensures, h .before .is-unused2 .ensures, h .before .before .is-unused .ensures, h .before .before .before .is-analysing .ensures)
+
+pub is-blank-spec : {M : Type 1} → statement M
+is-blank-spec = tie.close (tie.spec (search needs) (search needs) (search needs) (search needs) (search needs) (search needs) (search needs) returns)

@@ -1,0 +1,7 @@
+-- `range::is_unarmed` meets its contract.
+use borrow.Author.Needs.{needs}
+use Rattle.call.proofs.range.is_unarmed.Statement.{statement}
+use Rattle.call.proofs.range.is_unarmed.Tie as tie
+
+pub is-unarmed-spec : {M : Type 1} → statement M
+is-unarmed-spec = tie.close (tie.spec (search needs) (search needs) (λ c. rw (c .some-armed2 .ensures, c .before .some-armed .ensures)))

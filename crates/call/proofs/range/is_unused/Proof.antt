@@ -1,0 +1,7 @@
+-- `range::is_unused` meets its contract.
+use borrow.Author.Needs.{needs}
+use Rattle.call.proofs.range.is_unused.Statement.{statement}
+use Rattle.call.proofs.range.is_unused.Tie as tie
+
+pub is-unused-spec : {M : Type 1} → statement M
+is-unused-spec = tie.close (tie.spec (search needs) (search needs) (λ c. rw (c .is-pending .ensures, c .before .is-present .ensures)))
