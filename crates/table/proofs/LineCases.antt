@@ -1,0 +1,54 @@
+-- Computed cases of a listing line: document 01's example, and what the example does not show.
+use Prim.Native.Nat.{ℕ, suc}
+use mathlib.Core.Path.{_≡_, refl}
+use mathlib.Core.Bool.{Bool, true, false}
+use mathlib.Core.List.{List, [], _∷_, _++_}
+use Rattle.forms.specs.declared.units.Tenths.{Tenths}
+use Rattle.call.specs.declared.answers.Answer.{Answer}
+use Rattle.call.specs.declared.answers.Answer.the-variants.{Accepted, Refused}
+use Rattle.call.specs.declared.answers.Relationship.{Relationship}
+use Rattle.call.specs.declared.answers.Relationship.the-variants.{None, Monitor, Control}
+use Rattle.call.specs.declared.answers.Report.{Report}
+use Rattle.call.specs.declared.answers.Report.the-variants as R
+use Rattle.call.specs.declared.answers.ChargeReport.{ChargeReport}
+use Rattle.call.specs.declared.answers.ChargeReport.the-variants as C
+use Rattle.call.specs.declared.answers.Deadline.{Deadline}
+use Rattle.call.specs.declared.answers.Deadline.the-variants as D
+use Rattle.call.specs.declared.points.Role.the-variants as P
+use Rattle.call.specs.declared.record.Hold.{Hold}
+use Rattle.call.specs.declared.record.Hold.the-variants as H
+use Rattle.table.specs.Line.{text, digits, decimal, lineOf, header}
+
+abbrev ok : Relationship → Hold → Report → ChargeReport → ChargeReport → Deadline → Bool → Answer
+ok relationship hold event charge1 charge2 deadline over =
+    Accepted (record { relationship = relationship; hold = hold; reports = record { event = event; charge1 = charge1; charge2 = charge2 }; deadline = deadline; over = over })
+
+abbrev tenths : ℕ → Tenths
+tenths n = record { 0 = n }
+
+-- the lines of a run of answers, each with its number
+abbrev linesFrom : ℕ → List Answer → List ℕ
+linesFrom n [] = []
+linesFrom n (a ∷ l) = lineOf n a ++ linesFrom (suc n) l
+
+-- the answers of the example, and its listing
+abbrev answers : List Answer
+answers =
+    ok Control H.Trigger R.Trigger C.None C.None D.None false
+    ∷ ok Control H.Trigger R.None C.None C.None D.None false
+    ∷ ok Control H.None R.None C.None C.None (D.At (tenths 1300)) false
+    ∷ ok Control (H.At P.NoAnswer) (R.Interrupting P.NoAnswer) C.None C.None D.None false
+    ∷ ok None H.None R.None C.None C.None D.None true
+    ∷ Refused 4
+    ∷ []
+
+pub example : header ++ linesFrom 1 answers
+    ≡ text "item answer\n1 ok control 2 r2/1\n2 ok control 2\n3 ok control - d1300\n4 ok control 6 r6/2\n5 ok none - over\n6 refused 4\n"
+unfolding header lineOf decimal digits
+example = refl
+
+-- every part of a line: a notification, both charges, a deadline and the end
+pub all-parts : lineOf 18446744073709551615 (ok Monitor (H.At P.Moved) (R.Notification P.Seized) (C.Elapsed (tenths 0)) (C.Elapsed (tenths 123)) (D.At (tenths 281474976710665)) true)
+    ≡ text "18446744073709551615 ok monitor 50 n19/2 c1=0 c2=123 d281474976710665 over\n"
+unfolding lineOf decimal digits
+all-parts = refl

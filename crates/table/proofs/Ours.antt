@@ -1,0 +1,209 @@
+-- The layer `call` and the entries of the table keep their promises, so demand 3 holds of them; and a sound table stays so.
+use Prim.Native.Nat.{ℕ}
+use mathlib.Core.Path.{_≡_, refl, ap, _∙_}
+use mathlib.Core.Bool.{Bool, true, false, not, cond, _&&_, _||_, false≢true}
+use mathlib.Core.List.{List}
+use mathlib.Core.Option.{Option, none, some}
+use lib.Dec.{eqb}
+use lib.ListN.{replicate}
+use Rattle.forms.specs.Bytes.{same}
+use Rattle.forms.specs.Item.{formOf, itemBytes, itemInRange, restOf, isItem, readItem}
+use Rattle.forms.specs.Profile.{profileOf, isProfile}
+use Rattle.forms.specs.declared.item.Body.{Body}
+use Rattle.forms.specs.declared.item.Body.the-variants as body
+use Rattle.forms.specs.declared.units.Tenths.{Tenths}
+use Rattle.forms.proofs.ByteLaws.{and-left, and-right}
+use Rattle.call.specs.declared.answers.Answer.the-variants.{Accepted, Refused}
+use Rattle.call.specs.declared.record.Stage.the-variants.{Analysing}
+use Rattle.call.specs.Relationship.{someArmed}
+use Rattle.call.specs.Range.{recordInRange, placesInRange, isBlank}
+use Rattle.call.specs.Trigger.{triggers}
+use Rattle.call.specs.Setup.{begun, openAs, openOf}
+use Rattle.call.specs.Step.{isSetup, kindOf, respondOf}
+use Rattle.call.specs.Alone as alone
+use Rattle.call.specs.Alone.{Fed, aloneStep}
+use Rattle.call.proofs.InRange.{isLeftWell, respond-left, open-left}
+use Rattle.call.proofs.CallTheorems.{isOver}
+use Rattle.call.proofs.Order.{isAccepted}
+use Rattle.table.specs.Types.{Item, Record, Answer, Stepped, Entry}
+use Rattle.table.specs.Table.{goes, ends, unless, fresh, Done}
+use Rattle.table.specs.Entry.{blankEntry, ourSlots}
+use Rattle.table.specs.Feed.{itemIn, restIn, earlyOf, effectAs, effectOf, ourCall, isSoundTable, feedOf}
+use Rattle.table.specs.Independence.{Independence}
+use Rattle.table.proofs.Promises.{Kept, keep, setupAlone, otherAlone, serveAlone, aloneAs, onNext, Promises}
+use Rattle.table.proofs.Numbers.{isNumbered, numbered-not-3, accepted-numbered, respond-numbered}
+use Rattle.table.proofs.Independence.{independence, stays-sound, fresh-is-sound}
+
+-- ---- what is neither 1 nor 2: an item, and of a Setup its profile
+
+pub item-fits : (i : Item) (s : List ℕ) → isItem i s ≡ true → itemInRange i (restOf (i .body) s) ≡ true
+unfolding isItem
+item-fits i s h = and-right (same (itemBytes i (restOf (i .body) s)) s) (itemInRange i (restOf (i .body) s)) h
+
+passed : (i s p : Bool) → cond {A = Option ℕ} (not i) (some 1) (cond (s && not p) (some 2) none) ≡ none → (i ≡ true) × (s ≡ true → p ≡ true)
+passed true s true e = (refl, λ h. refl)
+passed true true false e = (refl, λ h. cc)
+passed true false false e = (refl, λ h. cc)
+passed false s p e = (cc, λ h. cc)
+
+module _ (x : Fed) (e : earlyOf x ≡ none) where
+  checks : (isItem (itemIn x) (x .item) ≡ true) × (isSetup (itemIn x) ≡ true → isProfile (profileOf (x .profile)) (x .profile) ≡ true)
+  unfolding earlyOf
+  checks = passed (isItem (itemIn x) (x .item)) (isSetup (itemIn x)) (isProfile (profileOf (x .profile)) (x .profile)) e
+
+  item-in-range : itemInRange (itemIn x) (restIn x) ≡ true
+  item-in-range = item-fits (itemIn x) (x .item) (checks .0)
+
+-- ---- a Setup that is neither opens a call: it is accepted, and the call is not over
+
+abbrev pub Opens : Stepped → Type 0
+Opens s = (isAccepted (s .answer) ≡ true) × (isOver (s .answer) ≡ false)
+
+begun-opens : (b : Bool) (timer : _) (handling : _) (number : _) (t : Tenths) → Opens (begun b timer handling number t)
+begun-opens true timer handling number t = (refl, refl)
+begun-opens false timer handling number t = (refl, refl)
+
+-- what holds of every Setup's body holds of the body of an item that is a Setup
+on-setup : (P : Body → Type 0) → ((n v : ℕ) (w : Bool) (c : ℕ) → P (body.Setup n v w c)) → (b : Body) → eqb (formOf b .kind) 1 ≡ true → P b
+on-setup P f (body.Setup n v w c) h = f n v w c
+on-setup P f (body.RouteFailure c) h = absurd (false≢true h)
+on-setup P f (body.Busy c) h = absurd (false≢true h)
+on-setup P f body.NoAnswer h = absurd (false≢true h)
+on-setup P f body.Seized h = absurd (false≢true h)
+on-setup P f body.Answer h = absurd (false≢true h)
+on-setup P f (body.MidCall d) h = absurd (false≢true h)
+on-setup P f body.Moved h = absurd (false≢true h)
+on-setup P f (body.Clear l c) h = absurd (false≢true h)
+on-setup P f (body.PeriodOver l) h = absurd (false≢true h)
+on-setup P f (body.RequestReport c) h = absurd (false≢true h)
+on-setup P f body.Continue h = absurd (false≢true h)
+on-setup P f (body.Connect n c) h = absurd (false≢true h)
+on-setup P f body.Release h = absurd (false≢true h)
+on-setup P f (body.ApplyCharging l p) h = absurd (false≢true h)
+on-setup P f body.ActivityTest h = absurd (false≢true h)
+on-setup P f body.Abort h = absurd (false≢true h)
+
+module _ (i : Item) (rest s : List ℕ) (o : itemInRange i rest ≡ true) (h : isSetup i ≡ true) where
+  pub setup-opens : isProfile (profileOf s) s ≡ true → Opens (openOf i rest s)
+  unfolding openOf
+  setup-opens p =
+      rw o (on-setup (λ b. Opens (openAs (kindOf b Analysing) s (i .time) rest)) (λ n v w c. rw p (begun-opens (triggers (profileOf s) n v w rest) _ _ _ (i .time))) (i .body) h)
+
+  pub setup-refused : isProfile (profileOf s) s ≡ false → openOf i rest s .answer ≡ Refused 2
+  unfolding openOf
+  setup-refused p = rw o (on-setup (λ b. openAs (kindOf b Analysing) s (i .time) rest .answer ≡ Refused 2) (λ n v w c. rw p) (i .body) h)
+
+-- ---- in range in, in range out
+
+left-in-range : (s : Stepped) (t : Tenths) → isLeftWell t s ≡ true → onNext recordInRange (effectOf s) ≡ true
+left-in-range s t h = go (s .answer) h
+  where
+    on : (b : Bool) (a : Answer) (d : Bool) → (b || (recordInRange (s .next) && d)) ≡ true → onNext recordInRange (cond b (ends a) (goes a (s .next))) ≡ true
+    on true a d h = refl
+    on false a d h = and-left (recordInRange (s .next)) d h
+
+    go : (a : Answer) → isLeftWell t (record { answer = a; next = s .next }) ≡ true → onNext recordInRange (effectAs a (s .next)) ≡ true
+    go (Refused n) h = refl
+    go (Accepted o) h = on (o .over) (Accepted o) _ h
+
+-- an opened call's effect is that it goes on
+pub opened-goes : (a : Answer) (next : Record) → (isAccepted a ≡ true) × (isOver a ≡ false) → (effectAs a next ≡ goes a next) × (alone.remaining none a next ≡ some next)
+opened-goes (Accepted o) next q = (rw (q .1), rw (q .1))
+opened-goes (Refused n) next q = absurd (false≢true (q .0))
+
+-- ---- the call by itself is made of the same parts
+
+kept-so : (r : Record) (a : Answer) (next : Record) → (a, alone.remaining (some r) a next) ≡ keep ourCall r (effectAs a next)
+unfolding keep
+kept-so r (Refused n) next = refl
+kept-so r (Accepted o) next = go (o .over) (Accepted o)
+  where
+    go : (b : Bool) (a : Answer) → (a, cond b none (some next)) ≡ keep ourCall r (cond b (ends a) (goes a next))
+    go true a = refl
+    go false a = refl
+
+-- a call by itself answers as the parts do, and its refusals are numbered 1 to 14 but 3
+abbrev As : Kept ourCall → Kept ourCall → Type 0
+As d o = (d ≡ o) × (isNumbered (d .0) ≡ true)
+
+module _ (x : Fed) where
+  abbrev profileIs : Bool → Type 0
+  profileIs b = isProfile (profileOf (x .profile)) (x .profile) ≡ b
+
+  as-other : (v : Option Record) → As (alone.otherAlone v (itemIn x) (restIn x)) (otherAlone ourCall x v)
+  unfolding otherAlone
+  as-other none = (refl, refl)
+  as-other (some r) = let s = respondOf r (itemIn x) (restIn x) in (kept-so r (s .answer) (s .next), respond-numbered r (itemIn x) (restIn x))
+
+  module _ (o : itemInRange (itemIn x) (restIn x) ≡ true) (h : isSetup (itemIn x) ≡ true) where
+    abbrev opens : Stepped
+    opens = openOf (itemIn x) (restIn x) (x .profile)
+
+    as-setup : (v : Option Record) → profileIs true → As (alone.setupAlone v (itemIn x) (restIn x) (x .profile)) (setupAlone ourCall x v)
+    unfolding setupAlone
+    as-setup none p =
+        let q = setup-opens (itemIn x) (restIn x) (x .profile) o h p in
+        (ap (λ k. (opens .answer, k)) (opened-goes (opens .answer) (opens .next) q .1), accepted-numbered (opens .answer) (q .0))
+    as-setup (some r) p = rw p (refl, refl)
+
+    as-refused : (v : Option Record) → profileIs false → As (alone.setupAlone v (itemIn x) (restIn x) (x .profile)) (Refused 2, v)
+    as-refused none p = let e = setup-refused (itemIn x) (restIn x) (x .profile) o h p in (ap (λ a. (a, alone.remaining none a (opens .next))) e, ap isNumbered e)
+    as-refused (some r) p = rw p (refl, refl)
+
+  alone-as : (v : Option Record) → As (aloneStep v (x .item) (x .profile)) (aloneAs ourCall v x)
+  unfolding aloneStep readItem aloneAs earlyOf unless serveAlone
+  alone-as v = go (isItem (itemIn x) (x .item)) (isSetup (itemIn x)) (isProfile (profileOf (x .profile)) (x .profile)) refl refl refl
+    where
+      go : (i s p : Bool) → isItem (itemIn x) (x .item) ≡ i → isSetup (itemIn x) ≡ s → profileIs p → As (aloneStep v (x .item) (x .profile)) (aloneAs ourCall v x)
+      go true true true e f g = rw (e, f, g) (as-setup (item-fits (itemIn x) (x .item) e) f v g)
+      go true true false e f g = rw (e, f, g) (as-refused (item-fits (itemIn x) (x .item) e) f v g)
+      go true false p e f g = rw (e, f) (as-other v)
+      go false s p e f g = rw e (refl, refl)
+
+-- ---- the promises, and what comes of them
+
+begin-in-range : (x : Fed) → earlyOf x ≡ none → isSetup (itemIn x) ≡ true → recordInRange (openOf (itemIn x) (restIn x) (x .profile) .next) ≡ true
+begin-in-range x e h =
+    let s = openOf (itemIn x) (restIn x) (x .profile) in
+    let q = setup-opens (itemIn x) (restIn x) (x .profile) (item-in-range x e) h (checks x e .1 h) in
+    rw (opened-goes (s .answer) (s .next) q .0) at (left-in-range s (itemIn x .time) (open-left (itemIn x) (restIn x) (x .profile)))
+
+blank-is-blank : isBlank (blankEntry .body) ≡ true
+unfolding blankEntry isBlank someArmed placesInRange
+blank-is-blank = refl
+
+promises : Promises ourCall ourSlots
+unfolding blankEntry
+promises =
+    record {
+      owner-own = λ k r. refl;
+      body-own = λ k r. refl;
+      owner-blank = refl;
+      blank-blank = blank-is-blank;
+      begin-range = begin-in-range;
+      meet-range = λ r x e h o. left-in-range (respondOf r (itemIn x) (restIn x)) (itemIn x .time) (respond-left r (itemIn x) (restIn x) o (item-in-range x e));
+      alone-is = λ v x. alone-as x v .0;
+      alone-never-3 = λ v x. numbered-not-3 _ (alone-as x v .1);
+      room-is-not-3 = numbered-not-3 (Refused 6) refl;
+    }
+
+-- demand 3
+pub ours : Independence ourCall ourSlots
+ours = independence ourCall ourSlots promises
+
+-- a sound table stays so, whatever is fed
+pub stays : (t : List Entry) (item profile : List ℕ) → isSoundTable t ≡ true → isSoundTable (feedOf t item profile .1) ≡ true
+stays t item profile e = stays-sound ourCall ourSlots promises t (record { item = item; profile = profile }) e
+
+-- so the table that whatever keeps to `feed`'s contract leaves
+pub fed-stays : (t u : List Entry) (item profile : List ℕ) (a : Answer) → isSoundTable t ≡ true → (a, u) ≡ feedOf t item profile → ((a, u) ≡ feedOf t item profile) × (isSoundTable u ≡ true)
+fed-stays t u item profile a e f = (f, ap (λ (d : Done ourCall ourSlots). isSoundTable (d .1)) f ∙ stays t item profile e)
+
+-- a fresh table is sound
+pub fresh-sound : isSoundTable (replicate 64 blankEntry) ≡ true
+unfolding fresh
+fresh-sound = fresh-is-sound ourCall ourSlots promises
+
+pub made-fresh : (t : List Entry) → t ≡ replicate 64 blankEntry → (t ≡ fresh ourSlots) × (isSoundTable t ≡ true)
+unfolding fresh
+made-fresh t e = (e, rw e fresh-sound)

@@ -1,0 +1,133 @@
+-- What is made of the one entry is what the table makes of the item.
+use Prim.Native.Nat.{ℕ, _<_}
+use native.Mathlib.Omega.{arith}
+use mathlib.Core.Path.{_≡_, refl, _∙_, ap}
+use mathlib.Core.Bool.{Bool, true, false, cond, false≢true}
+use mathlib.Core.List.{List}
+use mathlib.Core.Option.{Option, none, some}
+use lib.ListN.{length, getD, set}
+use lib.Seq.{set-getD}
+use borrow.Author.Tests.{eqb-true}
+use Rattle.forms.specs.Item.{callIn, itemOf, isItem, readItem}
+use Rattle.forms.specs.Profile.{profileOf, isProfile, readProfile}
+use Rattle.call.specs.declared.answers.Answer.the-variants.{Accepted, Refused}
+use Rattle.call.specs.Alone.{Fed}
+use Rattle.call.specs.Setup.{openOf}
+use Rattle.call.specs.Step.{isSetup, respondOf}
+use Rattle.call.proofs.Order.{isAccepted}
+use Rattle.table.specs.Types.{Answer, Record, Stepped, Entry, Spot, Acted}
+use Rattle.table.specs.declared.lookup.Spot.the-variants.{Nowhere, Free, Own}
+use Rattle.table.specs.Table.{Effect, find, isFree, owns, unless, store, place, setupAt, otherAt, serve, damage, tableStep}
+use Rattle.table.specs.Entry.{ourSlots, ownedBy, blankEntry}
+use Rattle.table.specs.Feed.{itemIn, restIn, earlyOf, effectAs, ourCall, isSoundTable, feedOf}
+use Rattle.table.specs.Lookup.{spotOf, locateOf, placeOf}
+use Rattle.table.specs.Serve.{kept, denied, storedAs, setUp, met, actedOf, damagedOf}
+use Rattle.table.proofs.Lists.{Found, found}
+use Rattle.table.proofs.Valid.{sound-valid}
+use Rattle.table.proofs.Ours.{item-fits, Opens, setup-opens, setup-refused, opened-goes}
+
+-- the answer and the table, where the entry at place i was acted on
+abbrev put : List Entry → ℕ → Acted → Answer × List Entry
+put t i a = (a .answer, set t i (a .entry))
+
+-- ---- by where the call stands
+
+module _ (t : List Entry) where
+  abbrev entryAt : Spot → Entry
+  entryAt s = getD t (placeOf s) blankEntry
+
+  keeps-table : (i n : ℕ) → put t i (kept (getD t i blankEntry) n) ≡ (Refused n, t)
+  keeps-table i n = ap (λ u. (Refused n, u)) (set-getD t i blankEntry)
+
+  denies : (i n : ℕ) (a : Answer) → isAccepted a ≡ true → put t i (denied (getD t i blankEntry) a n) ≡ (Refused n, t)
+  denies i n (Accepted o) h = keeps-table i n
+  denies i n (Refused m) h = absurd (false≢true h)
+
+  stores : (k i : ℕ) (a : Answer) (next : Record) → put t i (storedAs (getD t i blankEntry) k a next) ≡ store ourCall ourSlots t k i (effectAs a next)
+  unfolding store
+  stores k i (Refused n) next = keeps-table i n
+  stores k i (Accepted o) next = go (o .over) (Accepted o)
+    where
+      go : (b : Bool) (a : Answer) → (a, set t i (cond b blankEntry (ownedBy k next))) ≡ store ourCall ourSlots t k i (cond b (Effect.ends a) (Effect.goes a next))
+      go true a = refl
+      go false a = refl
+
+  module _ (x : Fed) where
+    abbrev opening : Stepped
+    opening = openOf (itemIn x) (restIn x) (x .profile)
+
+    abbrev sets : Spot → Answer × List Entry
+    sets s = put t (placeOf s) (setUp s (entryAt s) (itemIn x .call) opening)
+
+    setup-at : Opens opening → (o f : Option ℕ) → find (isFree ourSlots) t ≡ f → sets (spotOf o f) ≡ setupAt ourCall ourSlots t x o
+    unfolding setupAt place store
+    setup-at q (some j) f e = denies j 5 (opening .answer) (q .0)
+    setup-at q none none e = rw e (denies 0 6 (opening .answer) (q .0))
+    setup-at q none (some j) e = stores (itemIn x .call) j (opening .answer) (opening .next) ∙ rw (opened-goes (opening .answer) (opening .next) q .0, e)
+
+    -- refusal 2 goes before 5 and 6
+    setup-refused-at : opening .answer ≡ Refused 2 → (s : Spot) → sets s ≡ (Refused 2, t)
+    setup-refused-at e Nowhere = rw e (keeps-table 0 2)
+    setup-refused-at e (Free j) = rw e (keeps-table j 2)
+    setup-refused-at e (Own j) = rw e (keeps-table j 2)
+
+    other-at : (o f : Option ℕ) → let s = spotOf o f in put t (placeOf s) (met s (entryAt s) (itemIn x) (restIn x)) ≡ otherAt ourCall ourSlots t x o
+    unfolding otherAt
+    other-at none none = keeps-table 0 4
+    other-at none (some j) = keeps-table j 4
+    other-at (some j) f = let r = respondOf (getD t j blankEntry .body) (itemIn x) (restIn x) in stores (itemIn x .call) j (r .answer) (r .next)
+
+-- ---- the whole step
+
+module _ (t : List Entry) (item profile : List ℕ) where
+  abbrev x : Fed
+  x = record { item = item; profile = profile }
+
+  abbrev own : Option ℕ
+  own = find (owns ourSlots (callIn item)) t
+
+  abbrev free : Option ℕ
+  free = find (isFree ourSlots) t
+
+  abbrev spot : Spot
+  spot = locateOf (callIn item) t
+
+  abbrev profileIs : Bool → Type 0
+  profileIs b = isProfile (profileOf profile) profile ≡ b
+
+  pub acts : isSoundTable t ≡ true → put t (placeOf spot) (actedOf spot (entryAt t spot) item profile) ≡ feedOf t item profile
+  unfolding actedOf readItem itemOf tableStep earlyOf unless damage serve
+  acts sound = go (isItem (itemIn x) item) (isSetup (itemIn x)) (isProfile (profileOf profile) profile) refl refl refl
+    where
+      go : (i s p : Bool) → isItem (itemIn x) item ≡ i → isSetup (itemIn x) ≡ s → profileIs p → put t (placeOf spot) (actedOf spot (entryAt t spot) item profile) ≡ feedOf t item profile
+      go false s p e f g = rw e (keeps-table t (placeOf spot) 1)
+      go true true false e f g = rw (e, f, g) (setup-refused-at t x (setup-refused (itemIn x) (restIn x) profile (item-fits (itemIn x) item e) f g) spot)
+      go true true true e f g = rw (e, f, g, sound) (setup-at t x (setup-opens (itemIn x) (restIn x) profile (item-fits (itemIn x) item e) f g) own free refl)
+      go true false p e f g = rw (e, f, sound) (other-at t x own free)
+
+  pub refuses-damaged : isSoundTable t ≡ false → (damagedOf item profile, t) ≡ feedOf t item profile
+  unfolding damagedOf readItem readProfile tableStep earlyOf unless damage
+  refuses-damaged damaged = go (isItem (itemIn x) item) (isSetup (itemIn x)) (isProfile (profileOf profile) profile) refl refl refl
+    where
+      go : (i s p : Bool) → isItem (itemIn x) item ≡ i → isSetup (itemIn x) ≡ s → profileIs p → (damagedOf item profile, t) ≡ feedOf t item profile
+      go false s p e f g = rw e
+      go true true false e f g = rw (e, f, g)
+      go true false false e f g = rw (e, f, g, damaged)
+      go true true true e f g = rw (e, f, g, damaged)
+      go true false true e f g = rw (e, f, g, damaged)
+
+  -- the entry that is looked at stands in the table
+  pub inside : length t ≡ 64 → placeOf spot < length t
+  inside h = go own free (found (owns ourSlots (callIn item)) blankEntry t) (found (isFree ourSlots) blankEntry t)
+    where
+      go : (o f : Option ℕ) → Found (owns ourSlots (callIn item)) blankEntry t o → Found (isFree ourSlots) blankEntry t f → placeOf (spotOf o f) < length t
+      go (some j) f v w = v .0
+      go none (some j) v w = w .0
+      go none none v w = omega (arith, h)
+
+  pub sound-size : isSoundTable t ≡ true → length t ≡ 64
+  sound-size e = eqb-true (length t) 64 (sound-valid ourSlots t e .size)
+
+  -- as the code finds it
+  pub found-inside : isSoundTable t ≡ true → (k : ℕ) (s : Spot) (i : ℕ) → k ≡ callIn item → s ≡ locateOf k t → i ≡ placeOf s → i < 64
+  found-inside e k s i f g h = rw (h, g, f) (rw (sound-size e) at (inside (sound-size e)))

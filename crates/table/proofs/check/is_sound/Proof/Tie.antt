@@ -1,0 +1,113 @@
+-- Made by tools/transplant.py of the derivation that Rattle generates for the surrogate of `table::check::is_sound`: not written by hand.
+use borrow.Fn.World.{World}
+use Rattle.table.proofs.check.is_once.Met
+use Rattle.table.proofs.check.is_once.Reads
+use Rattle.table.proofs.check.is_once.Symbol
+use Rattle.table.proofs.check.is_sound.Code
+use Rattle.table.proofs.check.is_sound.Key
+use Rattle.table.proofs.Lent.check_is_sound_Kinds as Kinds
+use Rattle.table.proofs.check.is_sound.Proof.Lts
+use Rattle.table.proofs.Lent.check_is_sound_Reads.{Ghost, Owned, Pinned, Post, Pre, ensures, owns, passes, post-read, pre-read, requires}
+use Rattle.table.proofs.check.is_sound.Statement
+use Rattle.table.proofs.check.is_sound_entry.Met as Met'
+use Rattle.table.proofs.check.is_sound_entry.Reads as Reads''
+use Rattle.table.proofs.check.is_sound_entry.Symbol as Symbol'
+use Rattle.table.proofs.check.number.Met as Met''
+use Rattle.table.proofs.check.number.Reads as Reads'3
+use Rattle.table.proofs.check.number.Symbol as Symbol''
+use borrow.Fn.Run
+use borrow.Fn.Written
+use contract.Running
+
+abbrev given : Lts.Claims
+given = (Reads'3.Asked, Reads'3.Learnt, Reads''.Asked, Reads''.Learnt, Reads.Asked, Reads.Learnt)
+
+abbrev pub InvT-loop : Type 1
+InvT-loop = Lts.InvT-loop
+
+abbrev pub MeasureT-loop : Type 0
+MeasureT-loop = Lts.MeasureT-loop
+
+module _ (Inv : InvT-loop) (μ : MeasureT-loop) where
+  abbrev pub Start : Type 0
+  Start = Lts.Start given Pre Post Inv μ
+
+  abbrev pub Then1 : Type 0
+  Then1 = Lts.Then1 given Pre Post Inv μ
+
+  abbrev pub Else1 : Type 0
+  Else1 = Lts.Else1 given Pre Post Inv μ
+
+  abbrev pub At-loop : Type 0
+  At-loop = Lts.At-loop given Pre Post Inv μ
+
+  abbrev pub In-loop : Type 0
+  In-loop = Lts.In-loop given Pre Post Inv μ
+
+  abbrev pub After-loop : Type 0
+  After-loop = Lts.After-loop given Pre Post Inv μ
+
+  abbrev pub After-e : Type 0
+  After-e = Lts.After-e given Pre Post Inv μ
+
+  abbrev pub After-number : Type 0
+  After-number = Lts.After-number given Pre Post Inv μ
+
+  abbrev pub After-is-sound-entry : Type 0
+  After-is-sound-entry = Lts.After-is-sound-entry given Pre Post Inv μ
+
+  abbrev pub After-owners : Type 0
+  After-owners = Lts.After-owners given Pre Post Inv μ
+
+  abbrev pub After-is-once : Type 0
+  After-is-once = Lts.After-is-once given Pre Post Inv μ
+
+  abbrev pub Need-returns : Type 0
+  Need-returns = Lts.Need-returns given Pre Post Inv μ
+
+  abbrev pub Need-loop-holds : Type 0
+  Need-loop-holds = Lts.Need-loop-holds given Pre Post Inv μ
+
+  abbrev pub Need-mul-e : Type 0
+  Need-mul-e = Lts.Need-mul-e given Pre Post Inv μ
+
+  abbrev pub Need-shared-slice-copy-out-e : Type 0
+  Need-shared-slice-copy-out-e = Lts.Need-shared-slice-copy-out-e given Pre Post Inv μ
+
+  abbrev pub Need-number-requires : Type 0
+  Need-number-requires = Lts.Need-number-requires given Pre Post Inv μ
+
+  abbrev pub Need-mul-owners : Type 0
+  Need-mul-owners = Lts.Need-mul-owners given Pre Post Inv μ
+
+  abbrev pub Need-array-write-owners : Type 0
+  Need-array-write-owners = Lts.Need-array-write-owners given Pre Post Inv μ
+
+  abbrev pub Need-is-sound-entry-requires : Type 0
+  Need-is-sound-entry-requires = Lts.Need-is-sound-entry-requires given Pre Post Inv μ
+
+  abbrev pub Need-add-i : Type 0
+  Need-add-i = Lts.Need-add-i given Pre Post Inv μ
+
+  abbrev pub Need-loop-less : Type 0
+  Need-loop-less = Lts.Need-loop-less given Pre Post Inv μ
+
+  abbrev pub Need-loop-again : Type 0
+  Need-loop-again = Lts.Need-loop-again given Pre Post Inv μ
+
+  abbrev pub Need-slice-aggregate-is-once : Type 0
+  Need-slice-aggregate-is-once = Lts.Need-slice-aggregate-is-once given Pre Post Inv μ
+
+  abbrev pub Need-is-once-requires : Type 0
+  Need-is-once-requires = Lts.Need-is-once-requires given Pre Post Inv μ
+
+  abbrev pub Need-returns-2 : Type 0
+  Need-returns-2 = Lts.Need-returns-2 given Pre Post Inv μ
+
+  pub spec : {M : Type 1} → Need-returns → Need-loop-holds → Need-mul-e → Need-shared-slice-copy-out-e → Need-number-requires → Need-mul-owners → Need-array-write-owners → Need-is-sound-entry-requires → Need-add-i → Need-loop-less → Need-loop-again → Need-slice-aggregate-is-once → Need-is-once-requires → Need-returns-2 → Lts.Closed given Pre Post M
+  spec = λ a0 a1 a2 a3 a4 a5 a6 a7 a8 a9 a10 a11 a12 a13. Lts.spec given Pre Post Inv μ a0 a1 a2 a3 a4 a5 a6 a7 a8 a9 a10 a11 a12 a13
+
+module _ {M : Type 1} where
+  pub close : Lts.Closed given Pre Post M → Statement.statement M
+  unfolding Code.routine Running.tablesOf
+  close = λ closed 𝓤 H 𝓜 𝓖 𝓡. let w : World = record { M = M; 𝓤 = 𝓤; H = H; 𝓜 = 𝓜; 𝓖 = 𝓖; 𝓡 = 𝓡 } in Written.close 1 Kinds.ps Kinds.r Ghost requires ensures pre-read Pinned Owned post-read w Code.env Key.name Code.function (Code.unfolded 𝓤 H 𝓜 𝓡) (λ κs a g. tt) (λ κs. owns κs w) (passes w) λ g. closed 𝓤 H (𝓖 .A) (Running.givenOf 𝓤 H 𝓜 𝓖) (Run.Over 𝓤 H 𝓜 𝓖 𝓡 Code.env) (Reads'3.known w Code.env Symbol''.name Symbol''.routine Code.calls-table·check·number (Met''.met 𝓤 H 𝓜 𝓖 𝓡)) (Reads''.known w Code.env Symbol'.name Symbol'.routine Code.calls-table·check·is-sound-entry (Met'.met 𝓤 H 𝓜 𝓖 𝓡)) (Reads.known w Code.env Symbol.name Symbol.routine Code.calls-table·check·is-once (Met.met 𝓤 H 𝓜 𝓖 𝓡))

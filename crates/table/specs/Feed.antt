@@ -1,0 +1,61 @@
+-- What `feed` answers and leaves: the table of `Table.antt`, over the layer `call` and the bytes that are handed in.
+use Prim.Native.Nat.{ℕ}
+use mathlib.Core.Bool.{Bool, not, cond, _&&_}
+use mathlib.Core.List.{List}
+use mathlib.Core.Option.{Option, none, some}
+use Rattle.forms.specs.Item.{itemOf, restOf, isItem}
+use Rattle.forms.specs.Profile.{profileOf, isProfile}
+use Rattle.call.specs.declared.answers.Answer.the-variants.{Accepted, Refused}
+use Rattle.call.specs.Setup.{openOf}
+use Rattle.call.specs.Step.{isSetup, respondOf}
+use Rattle.call.specs.Alone.{Fed, aloneStep}
+use Rattle.table.specs.Types.{Item, Record, Answer, Stepped, Entry}
+use Rattle.table.specs.Table.{Effect, refuses, goes, ends, OneCall, isSound, tableStep}
+use Rattle.table.specs.Entry.{ourSlots}
+
+-- the item that the bytes are, if they are one, and its digits or entries
+abbrev pub itemIn : Fed → Item
+itemIn x = itemOf (x .item)
+
+abbrev pub restIn : Fed → List ℕ
+restIn x = restOf (itemIn x .body) (x .item)
+
+-- "item malformed", "profile malformed (Setup)": refusals 1 and 2, which are checked before the table is looked at
+unfoldable pub earlyOf : Fed → Option ℕ
+earlyOf x =
+    cond (not (isItem (itemIn x) (x .item))) (some 1)
+    (cond (isSetup (itemIn x) && not (isProfile (profileOf (x .profile)) (x .profile))) (some 2) none)
+
+-- what `call` made of an item: "or nothing when the call is over. A refusal leaves what is kept."
+abbrev pub effectAs : Answer → Record → Effect Answer Record
+effectAs (Refused n) next = refuses n
+effectAs (Accepted o) next = cond (o .over) (ends (Accepted o)) (goes (Accepted o) next)
+
+abbrev pub effectOf : Stepped → Effect Answer Record
+effectOf s = effectAs (s .answer) (s .next)
+
+abbrev pub ourCall : OneCall
+ourCall =
+    record {
+      Item = Fed;
+      Rec = Record;
+      Answer = Answer;
+      refused = Refused;
+      call = λ x. itemIn x .call;
+      early = earlyOf;
+      isSetup = λ x. isSetup (itemIn x);
+      begin = λ x. let s = openOf (itemIn x) (restIn x) (x .profile) in (s .answer, s .next);
+      meet = λ r x. effectOf (respondOf r (itemIn x) (restIn x));
+      alone = λ k x. aloneStep k (x .item) (x .profile);
+    }
+
+-- the check for refusal 3
+abbrev pub isSoundTable : List Entry → Bool
+isSoundTable = isSound ourSlots
+
+-- the answer and the whole table afterwards, of the table before and what is handed in: the item's bytes and the profile's
+abbrev pub feedStep : List Entry → Fed → Answer × List Entry
+feedStep = tableStep ourCall ourSlots
+
+abbrev pub feedOf : List Entry → List ℕ → List ℕ → Answer × List Entry
+feedOf t item profile = feedStep t (record { item = item; profile = profile })

@@ -1,0 +1,11 @@
+pub mod Demands
+pub mod Types
+pub mod Runs
+pub mod Table
+pub mod Entry
+pub mod Feed
+pub mod Independence
+pub mod Check
+pub mod Lookup
+pub mod Serve
+pub mod Line

@@ -1,0 +1,34 @@
+// An item on the lent table: its answer, and one entry changed at most (document 01, The call table).
+ghost use mathlib.Core.Path.{_≡_};
+ghost use mathlib.Core.Bool.{true};
+ghost use Rattle.table.specs.Feed.{isSoundTable, feedOf};
+use crate::check;
+use crate::entry::Entry;
+use crate::lookup;
+use crate::serve;
+use call::answers::Answer;
+use forms::item;
+
+// On a table that is known to be sound, as a fresh one is and this leaves it: refusal 3 is not looked for.
+pub fn feed_sound(table: &mut [Entry], item: &[u8], profile: &[u8]) -> Answer
+    requires { ⌜ isSoundTable (now table) ≡ true ⌝ }
+    ensures { λ a. ⌜ ((a, now (table .exit)) ≡ feedOf (now (table .entry)) (now (item .entry)) (now (profile .entry))) × (isSoundTable (now (table .exit)) ≡ true) ⌝ }
+{
+    let s = lookup::locate(table, item::call_in(item));
+    let i = lookup::place_of(s);
+    let e = table[i];
+    let a = serve::act(e, s, item, profile);
+    table[i] = serve::entry_of(a);
+    serve::answer_of(a)
+}
+
+// On any table, of any length.
+pub fn feed(table: &mut [Entry], item: &[u8], profile: &[u8]) -> Answer
+    ensures { λ a. ⌜ (a, now (table .exit)) ≡ feedOf (now (table .entry)) (now (item .entry)) (now (profile .entry)) ⌝ }
+{
+    if check::is_sound(table) {
+        feed_sound(table, item, profile)
+    } else {
+        serve::refuse_damaged(item, profile)
+    }
+}
