@@ -1,0 +1,179 @@
+// The listing program (document 01): a profile and then items on standard input, and a line for each item's answer on standard output.
+ghost use Prim.Native.Nat.{_<_};
+ghost use Rattle.listing.specs.State.{past, remaining};
+
+mod input;
+mod output;
+
+use call::answers::Answer;
+use forms::bytes;
+use forms::profile;
+use forms::profile::ReadProfile;
+use input::Found;
+use input::HALF;
+use input::Place;
+use table::entry;
+use table::feed;
+use table::line;
+
+const SHORTEST_ITEM: usize = 14;
+
+const LONGEST_ITEM: usize = 65;
+
+const SHORTEST_PROFILE: usize = 10;
+
+const LONGEST_PROFILE: usize = 188;
+
+// One buffer serves both ways: the input stands in its first half, the output in its second. The profile stays at the front of the input, in `keep` bytes. The item to be answered, where there is one more, has `size` bytes at place `at`, and
+// `number` is its number. The input that was read ends at `end`; the output is filled to `filled`. `refusal` ends the listing, unless it is 0.
+pub struct State {
+    pub keep: usize,
+    pub at: usize,
+    pub size: usize,
+    pub end: usize,
+    pub filled: usize,
+    pub number: u64,
+    pub refusal: u8,
+    pub more: bool,
+}
+
+fn size_of(found: Found) -> usize {
+    match found {
+        Found::Short => 0,
+        Found::Bad => 0,
+        Found::Run(n) => n,
+    }
+}
+
+fn is_profile(s: &[u8]) -> bool {
+    let read = profile::read_profile(s);
+    match read {
+        ReadProfile::Profile(_) => true,
+        ReadProfile::Refused(_) => false,
+    }
+}
+
+// No item is left. Refusal 1 is for the item after the last answered one.
+fn ended(s: State, refusal: u8) -> State
+    ensures { λ r. ⌜ remaining r < past (s .number) ⌝ }
+{
+    let mut t = s;
+    t.refusal = refusal;
+    t.more = false;
+    if s.number < u64::MAX {
+        t.number = s.number + 1;
+    }
+    t
+}
+
+// The item of n bytes at a place is next.
+fn with_item(s: State, at: usize, end: usize, n: usize) -> State
+    ensures { λ r. ⌜ remaining r < past (s .number) ⌝ }
+{
+    if s.number < u64::MAX {
+        State {
+            keep: s.keep,
+            at,
+            size: n,
+            end,
+            filled: s.filled,
+            number: s.number + 1,
+            refusal: 0,
+            more: true,
+        }
+    } else {
+        ended(s, 0)
+    }
+}
+
+// What stands at a place is next: an item; the end of the input; or bytes that are no whole item, which is refusal 1.
+fn at_place(s: State, place: Place) -> State
+    ensures { λ r. ⌜ remaining r < past (s .number) ⌝ }
+{
+    let found = place.found;
+    let cut: u8 = if place.at < place.end { 1 } else { 0 };
+    match found {
+        Found::Short => ended(s, cut),
+        Found::Bad => ended(s, 1),
+        Found::Run(n) => with_item(s, place.at, place.end, n),
+    }
+}
+
+fn place_after(at: usize, n: usize) -> usize {
+    if n <= usize::MAX - at { at + n } else { at }
+}
+
+// Fetches the item after the one that was answered.
+fn fetch(buf: &mut [u8], s: State) -> State
+    ensures { λ r. ⌜ remaining r < past (s .number) ⌝ }
+{
+    let at = place_after(s.at, s.size);
+    let place = input::find(buf, s.keep, at, s.end, SHORTEST_ITEM, LONGEST_ITEM);
+    at_place(s, place)
+}
+
+// Reads the profile and stores the header. Refusal 2, with number 0, where the profile is cut short or malformed; else the first item is fetched.
+fn start(buf: &mut [u8]) -> State {
+    let place = input::find(buf, 0, 0, 0, SHORTEST_PROFILE, LONGEST_PROFILE);
+    let found = place.found;
+    let n = size_of(found);
+    let s = State {
+        keep: n,
+        at: place.at,
+        size: n,
+        end: place.end,
+        filled: line::header(buf, HALF),
+        number: 0,
+        refusal: 2,
+        more: false,
+    };
+    if is_profile(bytes::part_of(buf, 0, n)) {
+        fetch(buf, s)
+    } else {
+        s
+    }
+}
+
+fn item_of(buf: &[u8], s: State) -> &[u8] {
+    bytes::part_of(buf, s.at, s.size)
+}
+
+fn profile_of(buf: &[u8], s: State) -> &[u8] {
+    bytes::part_of(buf, 0, s.keep)
+}
+
+// Stores the line of the item, and fetches the next one.
+fn advance(buf: &mut [u8], s: State, answer: Answer) -> State
+    ensures { λ r. ⌜ remaining r < past (s .number) ⌝ }
+{
+    let mut t = s;
+    t.filled = output::put_line(buf, s.filled, s.number, answer);
+    fetch(buf, t)
+}
+
+// Stores the line of the refusal that ended the listing, if there is one, and writes what is in the buffer.
+fn finish(buf: &mut [u8], s: State) {
+    if s.refusal == 0 {
+        output::flush(buf, s.filled);
+    } else {
+        let filled = output::put_line(buf, s.filled, s.number, Answer::Refused(s.refusal));
+        output::flush(buf, filled);
+    }
+}
+
+// Owns the table, and lends it item by item. A fresh table is sound and stays so, so no item is checked for refusal 3.
+fn run(buf: &mut [u8]) {
+    let mut entries = entry::fresh();
+    let mut s = start(buf);
+    while s.more {
+        let a = feed::feed_sound(&mut entries, item_of(buf, s), profile_of(buf, s));
+        let next = advance(buf, s, a);
+        s = next;
+    }
+    finish(buf, s);
+}
+
+fn main() {
+    let mut buf = io::large_buffer();
+    run(&mut buf);
+}
