@@ -7,10 +7,16 @@ made=$(mktemp -d) || exit 2
 trap 'rm -rf "$made"' EXIT
 S=tools/surrogate
 cp crates.txt "$made"
-python3 tools/transplant.py "$made/crates/table" $S/common $S/of_table \
-    --elem u64x17=Elem --lent lookup/locate,check/is_sound,feed/feed_sound,feed/feed &&
-    python3 tools/transplant.py "$made/crates/listing" $S/common $S/of_listing \
-        --elem u64x17=table.Elem --plain run --lent-in table:feed/feed_sound &&
+# transplant CRATE SURROGATES.. WORDS..: the made files of one crate.
+transplant() {
+    crate=$1
+    shift
+    (cd $S && python3 ../transplant.py "$made/crates/$crate" common "$@")
+}
+transplant table of_table --elem u64x17=Elem --lent lookup/locate,check/is_sound,feed/feed_sound,feed/feed &&
+    transplant listing of_programs of_listing --elem u64x17=table.Elem --plain run --lent-in table:feed/feed_sound &&
+    transplant tables of_programs of_tables --elem u64x17=table.Elem --plain answer_case --lent-in table:feed/feed &&
+    transplant bench of_programs of_bench --elem u64x17=table.Elem --plain run --lent-in table:feed/feed,feed/feed_sound &&
     (cd "$made" && rt fmt) || exit 1
 made_in() { (cd "$1" && find crates -path '*/Proof/*.antt' -o -path '*/Lent/*.antt' -o -name Lent.antt) | sort; }
 files=$(made_in "$made")

@@ -1,0 +1,123 @@
+// A benchmark program: items fed over and over to one table, by the public `feed` or by `feed_sound`.
+// Standard input: 0 for `feed` or 1 for `feed_sound` (1 byte), how many items to feed (4 bytes), a profile, and items to the end, after the last of which comes the first again; at most 65536 bytes. It writes how many items were fed and how many of them were refused.
+ghost use Prim.Native.Nat.{_<_};
+use call::answers::Answer;
+use forms::bytes;
+use libc::STDIN_FILENO;
+use libc::STDOUT_FILENO;
+use table::entry;
+use table::feed;
+
+// The profile stands behind the five bytes of the head.
+const HEAD: usize = 5;
+
+// The next item has `size` bytes at place `at`; `left` are still to be fed, and `refused` were refused.
+pub struct State {
+    pub at: usize,
+    pub size: usize,
+    pub left: usize,
+    pub refused: u64,
+}
+
+fn size_at(buf: &[u8], at: usize) -> usize {
+    bytes::number2(bytes::from(buf, at))
+}
+
+fn place_after(at: usize, n: usize) -> usize {
+    if n <= usize::MAX - at { at + n } else { at }
+}
+
+// The place of the first item.
+fn first_place(buf: &[u8]) -> usize {
+    place_after(HEAD, size_at(buf, HEAD))
+}
+
+// How many items are to be fed.
+fn total(buf: &[u8]) -> usize {
+    bytes::number2(bytes::from(buf, 1)) * 65536 + bytes::number2(bytes::from(buf, 3))
+}
+
+fn start(buf: &[u8]) -> State {
+    let at = first_place(buf);
+    State {
+        at,
+        size: size_at(buf, at),
+        left: total(buf),
+        refused: 0,
+    }
+}
+
+// The place of the item after the one that was answered.
+fn next_place(buf: &[u8], at: usize, size: usize) -> usize {
+    let next = place_after(at, size);
+    if next < buf.len() {
+        next
+    } else {
+        first_place(buf)
+    }
+}
+
+fn counted(refused: u64, a: Answer) -> u64 {
+    match a {
+        Answer::Accepted(_) => refused,
+        Answer::Refused(_) => {
+            if refused < u64::MAX {
+                refused + 1
+            } else {
+                refused
+            }
+        }
+    }
+}
+
+// Counts the answer, and goes on to the next item.
+fn advance(buf: &[u8], s: State, a: Answer) -> State
+    requires { ⌜ 0 < s .left ⌝ }
+    ensures { λ r. ⌜ r .left < s .left ⌝ }
+{
+    let at = next_place(buf, s.at, s.size);
+    State {
+        at,
+        size: size_at(buf, at),
+        left: s.left - 1,
+        refused: counted(s.refused, a),
+    }
+}
+
+fn item_of(buf: &[u8], s: State) -> &[u8] {
+    bytes::part_of(buf, s.at, s.size)
+}
+
+fn profile_of(buf: &[u8]) -> &[u8] {
+    bytes::part_of(buf, HEAD, size_at(buf, HEAD))
+}
+
+// Owns the table, and lends it item by item. A fresh table is sound and stays so.
+fn run(buf: &[u8], checked: bool) -> State {
+    let mut entries = entry::fresh();
+    let mut s = start(buf);
+    while 0 < s.left {
+        let a = if checked {
+            feed::feed(&mut entries, item_of(buf, s), profile_of(buf))
+        } else {
+            feed::feed_sound(&mut entries, item_of(buf, s), profile_of(buf))
+        };
+        let next = advance(buf, s, a);
+        s = next;
+    }
+    s
+}
+
+fn report(buf: &[u8]) {
+    let s = run(buf, bytes::at(buf, 0) == 0);
+    io::print_decimal(STDOUT_FILENO, total(buf) as u64);
+    io::write_all(STDOUT_FILENO, b" ");
+    io::print_decimal(STDOUT_FILENO, s.refused);
+    io::write_all(STDOUT_FILENO, b"\n");
+}
+
+fn main() {
+    let mut buf = io::large_buffer();
+    let n = io::read_full(STDIN_FILENO, &mut buf);
+    report(&buf[..n]);
+}

@@ -1,0 +1,336 @@
+// An entry of the table as 87 bytes, both ways: the form in which the test program takes tables that no run reaches, damaged ones too.
+// Numbers are big-endian. Each field has a fixed place, so that any value which an entry can hold has a form:
+//   0 owner (0 free, 1 a call), 1 call (4), 5 stage, 6 leg 1, 24 leg 2, 42 hold, 43 last time (8), 51 ten armings,
+//   61 kept timer (4), 65 default timer (4), 69 default handling, 70 called number: nature, count, 15 digits
+// A leg: presence, charge (0 none, 1 waiting, 2 running), period (8), start (8). Enums are numbered as they are declared; a hold at a role is 2 more than the role's place.
+ghost use Prim.Native.Nat.{_<_};
+use call::points::Role;
+use call::record::*;
+use forms::bytes;
+use forms::profile::Handling;
+use forms::units::*;
+use table::entry::Entry;
+use table::entry::Owner;
+
+pub const SIZE: usize = 87;
+
+fn number4(s: &[u8], at: usize) -> u32 {
+    let high = bytes::number2(bytes::part_of(s, at, 2)) as u32;
+    let low = bytes::number2(bytes::part_of(bytes::from(s, at), 2, 2)) as u32;
+    high * 65536 + low
+}
+
+fn number8(s: &[u8], at: usize) -> u64 {
+    let high = number4(s, at) as u64;
+    let low = number4(bytes::from(s, at), 4) as u64;
+    high * 4294967296 + low
+}
+
+fn owner_at(s: &[u8]) -> Owner {
+    let b = bytes::at(s, 0);
+    match b {
+        1 => Owner::Call(number4(s, 1)),
+        _ => Owner::Free,
+    }
+}
+
+fn stage_of(b: u8) -> Stage {
+    match b {
+        1 => Stage::Alerting,
+        2 => Stage::Active,
+        _ => Stage::Analysing,
+    }
+}
+
+fn presence_of(b: u8) -> Presence {
+    match b {
+        1 => Presence::Present,
+        _ => Presence::Absent,
+    }
+}
+
+fn charge_of(b: u8, period: Tenths, start: Tenths) -> Charge {
+    match b {
+        1 => Charge::Waiting(period),
+        2 => Charge::Running(period, start),
+        _ => Charge::None,
+    }
+}
+
+fn leg_at(s: &[u8], at: usize) -> LegState {
+    let t = bytes::from(s, at);
+    let presence = presence_of(bytes::at(t, 0));
+    let charge = charge_of(
+        bytes::at(t, 1),
+        Tenths(number8(t, 2)),
+        Tenths(number8(t, 10)),
+    );
+    LegState { presence, charge }
+}
+
+fn hold_of(b: u8) -> Hold {
+    match b {
+        1 => Hold::Trigger,
+        2 => Hold::At(Role::MidCall),
+        3 => Hold::At(Role::Disconnect1),
+        4 => Hold::At(Role::Abandon),
+        5 => Hold::At(Role::Moved),
+        6 => Hold::At(Role::RouteFailure),
+        7 => Hold::At(Role::Busy),
+        8 => Hold::At(Role::NoAnswer),
+        9 => Hold::At(Role::Answer),
+        10 => Hold::At(Role::Disconnect2),
+        11 => Hold::At(Role::Seized),
+        _ => Hold::None,
+    }
+}
+
+fn mode_of(b: u8) -> Mode {
+    match b {
+        1 => Mode::Interrupted,
+        2 => Mode::Notify,
+        _ => Mode::None,
+    }
+}
+
+fn arming_at(s: &[u8], at: usize) -> Arming {
+    let mode = mode_of(bytes::at(s, at));
+    Arming { mode }
+}
+
+fn armings_at(s: &[u8]) -> [Arming; 10] {
+    [
+        arming_at(s, 51),
+        arming_at(s, 52),
+        arming_at(s, 53),
+        arming_at(s, 54),
+        arming_at(s, 55),
+        arming_at(s, 56),
+        arming_at(s, 57),
+        arming_at(s, 58),
+        arming_at(s, 59),
+        arming_at(s, 60),
+    ]
+}
+
+fn handling_of(b: u8) -> Handling {
+    match b {
+        1 => Handling::Release,
+        _ => Handling::Continue,
+    }
+}
+
+fn number_at(s: &[u8], at: usize) -> Number {
+    let t = bytes::from(s, at);
+    let mut digits = [0u8; 15];
+    put_bytes(&mut digits, 0, bytes::part_of(t, 2, 15));
+    Number {
+        nature: bytes::at(t, 0),
+        count: bytes::at(t, 1),
+        digits,
+    }
+}
+
+fn record_at(s: &[u8]) -> Record {
+    let stage = stage_of(bytes::at(s, 5));
+    let leg1 = leg_at(s, 6);
+    let leg2 = leg_at(s, 24);
+    let hold = hold_of(bytes::at(s, 42));
+    let last = Tenths(number8(s, 43));
+    let armings = armings_at(s);
+    let kept = Seconds(number4(s, 61));
+    let timer = Seconds(number4(s, 65));
+    let handling = handling_of(bytes::at(s, 69));
+    let number = number_at(s, 70);
+    Record {
+        stage,
+        leg1,
+        leg2,
+        hold,
+        last,
+        armings,
+        kept,
+        timer,
+        handling,
+        number,
+    }
+}
+
+// The entry whose form s begins with.
+pub(crate) fn entry_of(s: &[u8]) -> Entry {
+    let owner = owner_at(s);
+    let body = record_at(s);
+    Entry { owner, body }
+}
+
+fn put(d: &mut [u8], at: usize, b: u8) {
+    if at < d.len() {
+        d[at] = b;
+    }
+}
+
+// The bytes of s from place `at` on, as many as there is room for.
+fn put_bytes(d: &mut [u8], at: usize, s: &[u8])
+    requires { ⌜ at < 87 ⌝ }
+{
+    let mut i = 0;
+    while i < s.len() {
+        put(d, at + i, s[i]);
+        i += 1;
+    }
+}
+
+fn put4(d: &mut [u8], at: usize, n: u32)
+    requires { ⌜ at < 87 ⌝ }
+{
+    put(d, at, (n / 16777216 % 256) as u8);
+    put(d, at + 1, (n / 65536 % 256) as u8);
+    put(d, at + 2, (n / 256 % 256) as u8);
+    put(d, at + 3, (n % 256) as u8);
+}
+
+fn put8(d: &mut [u8], at: usize, n: u64)
+    requires { ⌜ at < 83 ⌝ }
+{
+    put4(d, at, (n / 4294967296) as u32);
+    put4(d, at + 4, (n % 4294967296) as u32);
+}
+
+fn put_owner(d: &mut [u8], owner: Owner) {
+    match owner {
+        Owner::Free => {
+            put(d, 0, 0);
+            put4(d, 1, 0);
+        }
+        Owner::Call(k) => {
+            put(d, 0, 1);
+            put4(d, 1, k);
+        }
+    }
+}
+
+fn stage_number(stage: Stage) -> u8 {
+    match stage {
+        Stage::Analysing => 0,
+        Stage::Alerting => 1,
+        Stage::Active => 2,
+    }
+}
+
+fn presence_number(presence: Presence) -> u8 {
+    match presence {
+        Presence::Absent => 0,
+        Presence::Present => 1,
+    }
+}
+
+fn put_charge(d: &mut [u8], at: usize, kind: u8, period: Tenths, start: Tenths)
+    requires { ⌜ at < 70 ⌝ }
+{
+    put(d, at, kind);
+    put8(d, at + 1, period.0);
+    put8(d, at + 9, start.0);
+}
+
+fn put_leg(d: &mut [u8], at: usize, leg: LegState)
+    requires { ⌜ at < 69 ⌝ }
+{
+    let presence = leg.presence;
+    let charge = leg.charge;
+    put(d, at, presence_number(presence));
+    match charge {
+        Charge::None => put_charge(d, at + 1, 0, Tenths(0), Tenths(0)),
+        Charge::Waiting(period) => put_charge(d, at + 1, 1, period, Tenths(0)),
+        Charge::Running(period, start) => put_charge(d, at + 1, 2, period, start),
+    }
+}
+
+fn role_number(role: Role) -> u8 {
+    match role {
+        Role::MidCall => 2,
+        Role::Disconnect1 => 3,
+        Role::Abandon => 4,
+        Role::Moved => 5,
+        Role::RouteFailure => 6,
+        Role::Busy => 7,
+        Role::NoAnswer => 8,
+        Role::Answer => 9,
+        Role::Disconnect2 => 10,
+        Role::Seized => 11,
+    }
+}
+
+fn hold_number(hold: Hold) -> u8 {
+    match hold {
+        Hold::None => 0,
+        Hold::Trigger => 1,
+        Hold::At(role) => role_number(role),
+    }
+}
+
+fn mode_number(mode: Mode) -> u8 {
+    match mode {
+        Mode::None => 0,
+        Mode::Interrupted => 1,
+        Mode::Notify => 2,
+    }
+}
+
+fn put_armings(d: &mut [u8], armings: [Arming; 10]) {
+    let mut i = 0;
+    while i < 10 {
+        let arming = armings[i];
+        let mode = arming.mode;
+        put(d, 51 + i, mode_number(mode));
+        i += 1;
+    }
+}
+
+fn handling_number(handling: Handling) -> u8 {
+    match handling {
+        Handling::Continue => 0,
+        Handling::Release => 1,
+    }
+}
+
+fn put_number(d: &mut [u8], number: Number) {
+    put(d, 70, number.nature);
+    put(d, 71, number.count);
+    let digits = number.digits;
+    put_bytes(d, 72, &digits);
+}
+
+fn put_state(d: &mut [u8], r: Record) {
+    let stage = r.stage;
+    let leg1 = r.leg1;
+    let leg2 = r.leg2;
+    let hold = r.hold;
+    let last = r.last;
+    put(d, 5, stage_number(stage));
+    put_leg(d, 6, leg1);
+    put_leg(d, 24, leg2);
+    put(d, 42, hold_number(hold));
+    put8(d, 43, last.0);
+}
+
+fn put_settings(d: &mut [u8], r: Record) {
+    let armings = r.armings;
+    let kept = r.kept;
+    let timer = r.timer;
+    let handling = r.handling;
+    let number = r.number;
+    put_armings(d, armings);
+    put4(d, 61, kept.0);
+    put4(d, 65, timer.0);
+    put(d, 69, handling_number(handling));
+    put_number(d, number);
+}
+
+// The form of an entry, at the start of d.
+pub(crate) fn put_entry(d: &mut [u8], e: Entry) {
+    let owner = e.owner;
+    let body = e.body;
+    put_owner(d, owner);
+    put_state(d, body);
+    put_settings(d, body);
+}
