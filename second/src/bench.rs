@@ -1,0 +1,338 @@
+//! Measuring this program beside the proved one: the listing programs on one
+//! long input, and feeding a table, item for item.
+
+use crate::forms::{frames, write_item};
+use crate::table::{self, Entry, ENTRIES};
+use crate::text;
+use std::fs::{self, File};
+use std::path::{Path, PathBuf};
+use std::process::{self, Child, Command, Stdio};
+use std::time::{Duration, Instant};
+use std::{env, io};
+
+/// Which function is fed with: the first byte of the input of `feed-items`.
+const FEED: u8 = 0;
+const FEED_SOUND: u8 = 1;
+/// The longest input of `feed-items`.
+const LONGEST_INPUT: usize = 65536;
+/// About so many items make a round; they stay below that length.
+const ROUND_ITEMS: usize = 2500;
+
+/// Feeds items to a fresh table, in their order, and after the last one the
+/// first again, until so many were fed as the input says: `FED REFUSED`.
+pub fn feed_items(input: &[u8]) -> Result<String, String> {
+    if input.len() > LONGEST_INPUT {
+        return Err(format!("the input has more than {LONGEST_INPUT} bytes"));
+    }
+    let Some((head, input)) = input.split_first_chunk::<5>() else {
+        return Err("the head of five bytes is missing".to_string());
+    };
+    let [function, count @ ..] = *head;
+    let count = u32::from_be_bytes(count);
+    let frames = frames(input);
+    let Some((profile, items @ [_, ..])) = frames.split_first() else {
+        return Err("the profile or the items are missing".to_string());
+    };
+    let feed = match function {
+        FEED => table::feed,
+        FEED_SOUND => table::feed_sound,
+        _ => return Err(format!("no function has the number {function}")),
+    };
+    let mut table = table::fresh();
+    let mut refused = 0;
+    for item in items.iter().cycle().take(count as usize) {
+        refused += u32::from(feed(&mut table, item, profile).is_err());
+    }
+    Ok(format!("{count} {refused}"))
+}
+
+/// Without criteria: every Setup triggers.
+const PROFILE: &str = "profile continue 120";
+const SETUP: &str = "setup 4/491512345 service 17";
+
+/// What happens to a call in its turns, ten seconds apart: it is answered,
+/// charged, cleared by the called party, connected anew, and busy.
+const LIFE: [&str; 23] = [
+    "request-report 5/2 interrupted, 6/2 interrupted timer 30, 7/2 notify",
+    "request-report 9/2 interrupted, 10/1 notify",
+    "apply-charging leg 2 period 300",
+    "continue",
+    "seized",
+    "activity-test",
+    "moved",
+    "continue", // refused: not held
+    "answer",
+    "mid-call digit 5",
+    "period-over leg 2", // refused: too early
+    "request-report 8/1 interrupted, 50/1 notify",
+    "period-over leg 2",
+    "apply-charging leg 2 period 864000",
+    "mid-call digit #",
+    "apply-charging leg 1 period 864000",
+    "continue",
+    "moved",
+    "clear leg 2 cause 16",
+    "request-report 4/2 notify, 7/2 notify",
+    "connect 4/491512346",
+    "seized",
+    "busy cause 17", // the call is over
+];
+
+/// A run with so many calls open: they are set up, about so many items follow
+/// over them in turn, and at the end all are released.
+pub fn input(open: u32, items: usize) -> Result<Vec<u8>, String> {
+    let mut run = Run::new()?;
+    let setup = text::assemble_body(SETUP)?;
+    let release = text::assemble_body("release")?;
+    let clear = text::assemble_body("clear leg 1 cause 16")?;
+    let mut life = Vec::new();
+    for item in LIFE {
+        life.push(text::assemble_body(item)?);
+    }
+    for call in 0..open {
+        run.feed(&setup, call);
+    }
+    for turn in 0..items / open as usize {
+        run.time += 100;
+        for call in 0..open {
+            if run.feed(&life[turn % life.len()], call) {
+                run.feed(&setup, call);
+            }
+        }
+    }
+    for call in 0..open {
+        // A call that is not under control has nothing that interrupts it.
+        if !run.feed(&release, call) {
+            run.feed(&clear, call);
+        }
+    }
+    Ok(run.bytes)
+}
+
+/// The input so far, and the table that it leaves.
+struct Run {
+    profile: Vec<u8>,
+    bytes: Vec<u8>,
+    table: [Entry; ENTRIES],
+    time: u64,
+}
+
+impl Run {
+    fn new() -> Result<Run, String> {
+        let profile = text::bytes_of(&text::assemble(PROFILE)?);
+        Ok(Run {
+            bytes: profile.clone(),
+            profile,
+            table: table::fresh(),
+            time: 1000,
+        })
+    }
+
+    /// True if the call is over by the item of this kind and body.
+    fn feed(&mut self, (kind, body): &(u8, Vec<u8>), call: u32) -> bool {
+        let item = write_item(*kind, call, self.time, body);
+        self.bytes.extend(&item);
+        let answer = table::feed_sound(&mut self.table, &item, &self.profile);
+        answer.is_ok_and(|accepted| accepted.over)
+    }
+}
+
+struct Program {
+    path: PathBuf,
+    arguments: Vec<&'static str>,
+}
+
+impl Program {
+    /// How long it takes for the input, and what it says.
+    fn time(&self, input: &Path, stdout: Stdio) -> io::Result<(Duration, String)> {
+        let failed = |error: String| io::Error::other(format!("{}: {error}", self.path.display()));
+        let stdin = File::open(input)?;
+        let start = Instant::now();
+        let output = Command::new(&self.path)
+            .args(&self.arguments)
+            .stdin(stdin)
+            .stdout(stdout)
+            .spawn()
+            .and_then(Child::wait_with_output)
+            .map_err(|error| failed(error.to_string()))?;
+        let time = start.elapsed();
+        if !output.status.success() {
+            return Err(failed(output.status.to_string()));
+        }
+        let said = String::from_utf8_lossy(&output.stdout);
+        Ok((time, said.trim_end().to_string()))
+    }
+}
+
+const OPEN: [u32; 3] = [1, 32, 64];
+
+/// How much is measured.
+struct Extent {
+    listing_items: usize,
+    /// The shortest time that this program shall feed.
+    feeding_time: Duration,
+    /// The programs run in turn, so often, and the best time of each counts.
+    repeats: usize,
+}
+
+const QUICK: Extent = Extent {
+    listing_items: 500_000,
+    feeding_time: Duration::from_millis(60),
+    repeats: 3,
+};
+
+const WHOLE: Extent = Extent {
+    listing_items: 2_500_000,
+    feeding_time: Duration::from_millis(150),
+    repeats: 7,
+};
+
+/// Measures, and prints tables in Markdown.
+pub fn run(listing: &str, bench: &str, quick: bool) -> io::Result<()> {
+    let extent = if quick { QUICK } else { WHOLE };
+    let file = env::temp_dir().join(format!("second-bench-{}", process::id()));
+    let measured = measure_listings(listing, &file, &extent)
+        .and_then(|()| measure_feeding(bench, &file, &extent));
+    let removed = fs::remove_file(&file);
+    measured.and(removed)
+}
+
+/// The proved program, and this one with the same task.
+fn pair(proved: &str, task: &'static str) -> io::Result<[Program; 2]> {
+    Ok([
+        Program {
+            path: proved.into(),
+            arguments: vec![],
+        },
+        Program {
+            path: env::current_exe()?,
+            arguments: vec![task],
+        },
+    ])
+}
+
+fn keep_best(best: &mut [Duration; 2], times: [Duration; 2]) {
+    for (best, time) in best.iter_mut().zip(times) {
+        *best = time.min(*best);
+    }
+}
+
+/// Items a second: the ratio is one of speeds.
+fn measure_listings(listing: &str, file: &Path, extent: &Extent) -> io::Result<()> {
+    let [proved, second] = pair(listing, "listing")?;
+    println!(
+        "| listing: open calls | items | proved, items/s | second, items/s \
+         | SPEED proved/second (1.0 or more: proved at least as fast) |"
+    );
+    println!("|---:|---:|---:|---:|---:|");
+    for open in OPEN {
+        for items in [extent.listing_items / 4, extent.listing_items] {
+            let input = input(open, items).map_err(io::Error::other)?;
+            let items = item_count(&input);
+            fs::write(file, &input)?;
+            let mut best = [Duration::MAX; 2];
+            for _ in 0..extent.repeats {
+                let (proved_time, _) = proved.time(file, Stdio::null())?;
+                let (second_time, _) = second.time(file, Stdio::null())?;
+                keep_best(&mut best, [proved_time, second_time]);
+            }
+            let [proved, second] = best.map(|time| f64::from(items) / time.as_secs_f64());
+            let ratio = proved / second;
+            println!("| {open} | {items} | {proved:.0} | {second:.0} | {ratio:.2} |");
+        }
+    }
+    Ok(())
+}
+
+/// All that follows the profile.
+fn item_count(input: &[u8]) -> u32 {
+    frames(input).len() as u32 - 1
+}
+
+/// Nanoseconds an item: the ratio is one of times.
+fn measure_feeding(bench: &str, file: &Path, extent: &Extent) -> io::Result<()> {
+    let programs = pair(bench, "feed-items")?;
+    println!();
+    println!(
+        "| function | open calls | proved, ns/item | second, ns/item \
+         | TIME proved/second (1.0 or less: proved at least as fast) |"
+    );
+    println!("|---|---:|---:|---:|---:|");
+    for (function, name) in [(FEED, "feed"), (FEED_SOUND, "feed_sound")] {
+        for open in OPEN {
+            let round = input(open, ROUND_ITEMS).map_err(io::Error::other)?;
+            let feeding = Feeding {
+                function,
+                name,
+                round_items: item_count(&round),
+                round,
+                file,
+            };
+            let [proved, second] = feeding.measure(&programs, extent)?;
+            let ratio = proved / second;
+            println!("| {name} | {open} | {proved:.1} | {second:.1} | {ratio:.2} |");
+        }
+    }
+    Ok(())
+}
+
+/// Feeding whole rounds of the same items. Each round ends with an empty table,
+/// so the next one finds what the first has found.
+struct Feeding<'a> {
+    function: u8,
+    name: &'static str,
+    round: Vec<u8>,
+    round_items: u32,
+    file: &'a Path,
+}
+
+impl Feeding<'_> {
+    /// How long each program takes for so many rounds. Both have to say the
+    /// same: else they have not done the same.
+    fn time(&self, programs: &[Program; 2], rounds: u32) -> io::Result<[Duration; 2]> {
+        let items = rounds * self.round_items;
+        let head = [&[self.function], &items.to_be_bytes()[..]].concat();
+        fs::write(self.file, [&head, &self.round[..]].concat())?;
+        let [proved, second] = programs;
+        let (proved_time, proved_said) = proved.time(self.file, Stdio::piped())?;
+        let (second_time, second_said) = second.time(self.file, Stdio::piped())?;
+        if proved_said != second_said {
+            let (name, path) = (self.name, proved.path.display());
+            return Err(io::Error::other(format!(
+                "{name} of {items} items: FED REFUSED is not the same\n  \
+                 {path}: {proved_said}\n  second: {second_said}"
+            )));
+        }
+        Ok([proved_time, second_time])
+    }
+
+    /// So many rounds that this program feeds long enough; a multiple of four.
+    fn enough_rounds(&self, programs: &[Program; 2], extent: &Extent) -> io::Result<u32> {
+        let mut rounds = 4;
+        loop {
+            let [_, second_time] = self.time(programs, rounds)?;
+            if second_time >= extent.feeding_time {
+                return Ok(rounds);
+            }
+            rounds *= 2;
+        }
+    }
+
+    /// Nanoseconds an item, from runs of two lengths, so that start-up does not
+    /// count.
+    fn measure(&self, programs: &[Program; 2], extent: &Extent) -> io::Result<[f64; 2]> {
+        let long = self.enough_rounds(programs, extent)?;
+        let short = long / 4;
+        let mut long_times = [Duration::MAX; 2];
+        let mut short_times = [Duration::MAX; 2];
+        for _ in 0..extent.repeats {
+            keep_best(&mut long_times, self.time(programs, long)?);
+            keep_best(&mut short_times, self.time(programs, short)?);
+        }
+        let items = f64::from((long - short) * self.round_items);
+        Ok([0, 1].map(|place| {
+            let time = long_times[place].saturating_sub(short_times[place]);
+            time.as_secs_f64() * 1e9 / items
+        }))
+    }
+}
