@@ -13,7 +13,7 @@ transplant() {
     shift
     (cd $S && python3 ../transplant.py "$made/crates/$crate" common "$@")
 }
-transplant table of_table --elem u64x17=Elem --lent lookup/locate,check/is_sound,feed/feed_sound,feed/feed &&
+transplant table of_table --elem u64x17=Elem --lent lookup/first_of,lookup/locate,check/is_sound,feed/feed_sound,feed/feed &&
     transplant listing of_programs of_listing --elem u64x17=table.Elem --plain run --lent-in table:feed/feed_sound &&
     transplant tables of_programs of_tables --elem u64x17=table.Elem --plain answer_case --lent-in table:feed/feed &&
     transplant bench of_programs of_bench --elem u64x17=table.Elem --plain run --lent-in table:feed/feed,feed/feed_sound &&

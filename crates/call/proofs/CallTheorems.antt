@@ -12,7 +12,7 @@ use borrow.Author.Tests.{eqb-true, eqb-false}
 use Rattle.forms.specs.Fields.{legNumber}
 use Rattle.forms.specs.Item.{itemInRange}
 use Rattle.forms.proofs.ByteLaws.{and-left, and-right}
-use Rattle.call.specs.Types.{Item, Tenths, Leg, Role, Stage, Mode, Charge, LegState, Arming, Record, Relationship, ChargeReport, Answer, Stepped, Kind}
+use Rattle.call.specs.Types.{Item, Tenths, Leg, Role, Stage, Mode, Charge, LegState, Arming, Record, Relationship, ChargeReport, Answer, Stepped, Check, Kind}
 use Rattle.forms.specs.declared.item.Leg.the-variants.{One, Two}
 use Rattle.call.specs.declared.points.Role.the-variants as role
 use Rattle.call.specs.declared.record.Mode.the-variants as mode
@@ -20,17 +20,18 @@ use Rattle.call.specs.declared.record.Charge.the-variants as charge
 use Rattle.call.specs.declared.answers.Relationship.the-variants as relationship
 use Rattle.call.specs.declared.answers.ChargeReport.the-variants as report
 use Rattle.call.specs.declared.answers.Answer.the-variants.{Accepted, Refused}
+use Rattle.call.specs.declared.answers.Check.the-variants.{Pass, Fail}
 use Rattle.call.specs.declared.step.Kind.the-variants as kind
 use Rattle.call.specs.Points.{roles, placeOf, isRole, legOf, isOnLeg, isActive, losesLeg, disarms, unarmed, modeAt, disarmed}
-use Rattle.call.specs.Charging.{isPending, isStarted, answered, granted, reportOf}
-use Rattle.call.specs.Relationship.{isMode, someArmed, isHeld, relationshipOf, isRelated}
-use Rattle.call.specs.Record.{noTimer, legAt}
-use Rattle.call.specs.Answers.{Row}
+use Rattle.call.specs.Charging.{isPresent, isPending, isStarted, answered, granted, reportOf}
+use Rattle.call.specs.Relationship.{isMode, someArmed, isHeld, isTrigger, relationshipOf, isRelated}
+use Rattle.call.specs.Record.{blank, noTimer, legAt}
+use Rattle.call.specs.Answers.{Row, firstOf, guarded}
 use Rattle.call.specs.Events.{leaves, legAfter, endsCall, met}
-use Rattle.call.specs.Operations.{routed, chargeApplied}
+use Rattle.call.specs.Operations.{routed, continued, dropped, isRelease, aborted, chargeApplied}
 use Rattle.call.specs.Refusals.{row1Time, rowsOf}
 use Rattle.call.specs.Range.{recordInRange}
-use Rattle.call.specs.Step.{respondOf, stepOf}
+use Rattle.call.specs.Step.{kindOf, served, respondOf, stepOf}
 
 -- ---- relationship
 
@@ -244,6 +245,50 @@ lost-leg-met r p q t h k = ap (λ s. modeAt q (s .next .armings)) (goes-on (ends
 pub busy-spares-caller : (r : Record) (q : Role) (t : Tenths) → legOf q ≡ One → isOver (met r role.Busy t .answer) ≡ false
     → modeAt q (met r role.Busy t .next .armings) ≡ modeAt q (r .armings)
 busy-spares-caller r q t e h = lost-leg-met r role.Busy q t refl h ∙ ap (λ l. cond (eqb (legNumber l) 2) mode.None (modeAt q (r .armings))) e
+
+-- ---- what remains: "A refusal leaves what is kept", and a call that is over leaves a blank record
+
+abbrev RemainsBy : Record → Answer → Record → Type 0
+RemainsBy r (Refused n) next = next ≡ r
+RemainsBy r (Accepted o) next = o .over ≡ true → next ≡ blank
+
+abbrev pub Remains : Record → Stepped → Type 0
+Remains r s = RemainsBy r (s .answer) (s .next)
+
+module _ (r : Record) where
+  either : (b : Bool) (x y : Stepped) → Remains r x → Remains r y → Remains r (cond b x y)
+  either true x y h g = h
+  either false x y h g = g
+
+  continued-remains : (s : Record) (t : Tenths) → Remains r (continued s t)
+  unfolding continued
+  continued-remains s t =
+      either (isPresent (s .leg1 .presence) && isPresent (s .leg2 .presence)) _ _
+      (either (isTrigger (s .hold)) _ _ (λ e. absurd (false≢true e)) (λ e. absurd (false≢true e)))
+      (λ e. refl)
+
+  served-remains : (k : Kind) (t : Tenths) (rest : List ℕ) → Remains r (served r k t rest)
+  unfolding met aborted
+  served-remains (kind.Setup n s w c) t rest = refl
+  served-remains (kind.Event p) t rest = either (endsCall p (modeAt p (r .armings))) _ _ (λ e. refl) (λ e. absurd (false≢true e))
+  served-remains (kind.PeriodOver l) t rest = λ e. absurd (false≢true e)
+  served-remains (kind.RequestReport n) t rest = λ e. absurd (false≢true e)
+  served-remains kind.Continue t rest = continued-remains r t
+  served-remains (kind.Connect n c) t rest = λ e. absurd (false≢true e)
+  served-remains kind.Release t rest = λ e. refl
+  served-remains (kind.ApplyCharging l p) t rest = λ e. absurd (false≢true e)
+  served-remains kind.ActivityTest t rest = λ e. absurd (false≢true e)
+  served-remains kind.Abort t rest =
+      either (isRelease (r .handling)) _ _ (λ e. refl)
+      (either (isHeld (r .hold)) _ _ (continued-remains (dropped r) t) (λ e. absurd (false≢true e)))
+
+  guarded-remains : (c : Check) (s : Stepped) → Remains r s → Remains r (guarded c r s)
+  guarded-remains Pass s h = h
+  guarded-remains (Fail n) s h = refl
+
+  pub respond-remains : (i : Item) (rest : List ℕ) → Remains r (respondOf r i rest)
+  unfolding respondOf
+  respond-remains i rest = let k = kindOf (i .body) (r .stage) in guarded-remains (firstOf (row1Time (i .time) ∷ rowsOf r k (i .time) rest)) (served r k (i .time) rest) (served-remains k (i .time) rest)
 
 -- ---- ranges
 

@@ -5,5 +5,7 @@ pub mod feed_feed_Kinds
 pub mod feed_feed_Reads
 pub mod feed_feed_sound_Kinds
 pub mod feed_feed_sound_Reads
+pub mod lookup_first_of_Kinds
+pub mod lookup_first_of_Reads
 pub mod lookup_locate_Kinds
 pub mod lookup_locate_Reads

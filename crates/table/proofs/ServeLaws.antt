@@ -11,71 +11,84 @@ use borrow.Author.Tests.{eqb-true}
 use Rattle.forms.specs.Item.{callIn, itemOf, isItem, readItem}
 use Rattle.forms.specs.Profile.{profileOf, isProfile, readProfile}
 use Rattle.call.specs.declared.answers.Answer.the-variants.{Accepted, Refused}
+use Rattle.call.specs.Record.{blank}
+use Rattle.call.specs.Answers.{refused}
 use Rattle.call.specs.Alone.{Fed}
 use Rattle.call.specs.Setup.{openOf}
 use Rattle.call.specs.Step.{isSetup, respondOf}
+use Rattle.call.proofs.CallTheorems.{isOver, Remains, respond-remains}
 use Rattle.call.proofs.Order.{isAccepted}
-use Rattle.table.specs.Types.{Answer, Record, Stepped, Entry, Spot, Acted}
+use Rattle.table.specs.Types.{Answer, Record, Stepped, Entry, Spot}
+use Rattle.table.specs.declared.entry.Owner.the-variants as owner
 use Rattle.table.specs.declared.lookup.Spot.the-variants.{Nowhere, Free, Own}
 use Rattle.table.specs.Table.{Effect, find, isFree, owns, unless, store, place, setupAt, otherAt, serve, damage, tableStep}
 use Rattle.table.specs.Entry.{ourSlots, ownedBy, blankEntry}
 use Rattle.table.specs.Feed.{itemIn, restIn, earlyOf, effectAs, ourCall, isSoundTable, feedOf}
 use Rattle.table.specs.Lookup.{spotOf, locateOf, placeOf}
-use Rattle.table.specs.Serve.{kept, denied, storedAs, setUp, met, actedOf, damagedOf}
+use Rattle.table.specs.Serve.{denied, openedAs, setUp, met, actedOf, entryAfter, damagedOf}
 use Rattle.table.proofs.Lists.{Found, found}
 use Rattle.table.proofs.Valid.{sound-valid}
-use Rattle.table.proofs.Ours.{item-fits, Opens, setup-opens, setup-refused, opened-goes}
+use Rattle.table.proofs.Ours.{item-fits, Opens, setup-opens, setup-refused}
 
--- the answer and the table, where the entry at place i was acted on
-abbrev put : List Entry → ℕ → Acted → Answer × List Entry
-put t i a = (a .answer, set t i (a .entry))
+-- the answer and the table, where the entry at place i was acted on for call k
+abbrev put : List Entry → ℕ → ℕ → Stepped → Answer × List Entry
+put t i k s = (s .answer, set t i (entryAfter (getD t i blankEntry) k s))
 
 -- ---- by where the call stands
 
 module _ (t : List Entry) where
-  abbrev entryAt : Spot → Entry
-  entryAt s = getD t (placeOf s) blankEntry
+  abbrev recordAt : ℕ → Record
+  recordAt i = getD t i blankEntry .body
 
-  keeps-table : (i n : ℕ) → put t i (kept (getD t i blankEntry) n) ≡ (Refused n, t)
-  keeps-table i n = ap (λ u. (Refused n, u)) (set-getD t i blankEntry)
+  keeps-table : (i k n : ℕ) → put t i k (refused (recordAt i) n) ≡ (Refused n, t)
+  keeps-table i k n = ap (λ u. (Refused n, u)) (set-getD t i blankEntry)
 
-  denies : (i n : ℕ) (a : Answer) → isAccepted a ≡ true → put t i (denied (getD t i blankEntry) a n) ≡ (Refused n, t)
-  denies i n (Accepted o) h = keeps-table i n
-  denies i n (Refused m) h = absurd (false≢true h)
+  denies : (i k n : ℕ) (a : Answer) → isAccepted a ≡ true → put t i k (denied (recordAt i) a n) ≡ (Refused n, t)
+  denies i k n (Accepted o) h = keeps-table i k n
+  denies i k n (Refused m) h = absurd (false≢true h)
 
-  stores : (k i : ℕ) (a : Answer) (next : Record) → put t i (storedAs (getD t i blankEntry) k a next) ≡ store ourCall ourSlots t k i (effectAs a next)
-  unfolding store
-  stores k i (Refused n) next = keeps-table i n
-  stores k i (Accepted o) next = go (o .over) (Accepted o)
+  -- what remains of the record is stored
+  stores : (k i : ℕ) (s : Stepped) → Remains (recordAt i) s → put t i k s ≡ store ourCall ourSlots t k i (effectAs (s .answer) (s .next))
+  unfolding store blankEntry
+  stores k i s = go (s .answer) (s .next)
     where
-      go : (b : Bool) (a : Answer) → (a, set t i (cond b blankEntry (ownedBy k next))) ≡ store ourCall ourSlots t k i (cond b (Effect.ends a) (Effect.goes a next))
-      go true a = refl
-      go false a = refl
+      over : (b : Bool) (a : Answer) (next : Record) → (b ≡ true → next ≡ blank)
+          → (a, set t i (record { owner = cond b owner.Free (owner.Call k); body = next })) ≡ store ourCall ourSlots t k i (cond b (Effect.ends a) (Effect.goes a next))
+      over true a next h = rw (h refl)
+      over false a next h = refl
+
+      go : (a : Answer) (next : Record) → Remains (recordAt i) (record { answer = a; next = next }) → put t i k (record { answer = a; next = next }) ≡ store ourCall ourSlots t k i (effectAs a next)
+      go (Refused n) next h = rw h (keeps-table i k n)
+      go (Accepted o) next h = over (o .over) (Accepted o) next h
 
   module _ (x : Fed) where
     abbrev opening : Stepped
     opening = openOf (itemIn x) (restIn x) (x .profile)
 
     abbrev sets : Spot → Answer × List Entry
-    sets s = put t (placeOf s) (setUp s (entryAt s) (itemIn x .call) opening)
+    sets s = put t (placeOf s) (itemIn x .call) (setUp s (recordAt (placeOf s)) opening)
+
+    opens : (k i : ℕ) (a : Answer) (next : Record) → (isAccepted a ≡ true) × (isOver a ≡ false) → put t i k (openedAs (recordAt i) a next) ≡ (a, set t i (ownedBy k next))
+    opens k i (Accepted o) next q = rw (q .1)
+    opens k i (Refused n) next q = absurd (false≢true (q .0))
 
     setup-at : Opens opening → (o f : Option ℕ) → find (isFree ourSlots) t ≡ f → sets (spotOf o f) ≡ setupAt ourCall ourSlots t x o
-    unfolding setupAt place store
-    setup-at q (some j) f e = denies j 5 (opening .answer) (q .0)
-    setup-at q none none e = rw e (denies 0 6 (opening .answer) (q .0))
-    setup-at q none (some j) e = stores (itemIn x .call) j (opening .answer) (opening .next) ∙ rw (opened-goes (opening .answer) (opening .next) q .0, e)
+    unfolding setupAt place
+    setup-at q (some j) f e = denies j (itemIn x .call) 5 (opening .answer) (q .0)
+    setup-at q none none e = rw e (denies 0 (itemIn x .call) 6 (opening .answer) (q .0))
+    setup-at q none (some j) e = opens (itemIn x .call) j (opening .answer) (opening .next) q ∙ rw e
 
     -- refusal 2 goes before 5 and 6
     setup-refused-at : opening .answer ≡ Refused 2 → (s : Spot) → sets s ≡ (Refused 2, t)
-    setup-refused-at e Nowhere = rw e (keeps-table 0 2)
-    setup-refused-at e (Free j) = rw e (keeps-table j 2)
-    setup-refused-at e (Own j) = rw e (keeps-table j 2)
+    setup-refused-at e Nowhere = rw e (keeps-table 0 (itemIn x .call) 2)
+    setup-refused-at e (Free j) = rw e (keeps-table j (itemIn x .call) 2)
+    setup-refused-at e (Own j) = rw e (keeps-table j (itemIn x .call) 2)
 
-    other-at : (o f : Option ℕ) → let s = spotOf o f in put t (placeOf s) (met s (entryAt s) (itemIn x) (restIn x)) ≡ otherAt ourCall ourSlots t x o
+    other-at : (o f : Option ℕ) → let s = spotOf o f in put t (placeOf s) (itemIn x .call) (met s (recordAt (placeOf s)) (itemIn x) (restIn x)) ≡ otherAt ourCall ourSlots t x o
     unfolding otherAt
-    other-at none none = keeps-table 0 4
-    other-at none (some j) = keeps-table j 4
-    other-at (some j) f = let r = respondOf (getD t j blankEntry .body) (itemIn x) (restIn x) in stores (itemIn x .call) j (r .answer) (r .next)
+    other-at none none = keeps-table 0 (itemIn x .call) 4
+    other-at none (some j) = keeps-table j (itemIn x .call) 4
+    other-at (some j) f = stores (itemIn x .call) j (respondOf (recordAt j) (itemIn x) (restIn x)) (respond-remains (recordAt j) (itemIn x) (restIn x))
 
 -- ---- the whole step
 
@@ -95,12 +108,12 @@ module _ (t : List Entry) (item profile : List ℕ) where
   abbrev profileIs : Bool → Type 0
   profileIs b = isProfile (profileOf profile) profile ≡ b
 
-  pub acts : isSoundTable t ≡ true → put t (placeOf spot) (actedOf spot (entryAt t spot) item profile) ≡ feedOf t item profile
+  pub acts : isSoundTable t ≡ true → put t (placeOf spot) (callIn item) (actedOf spot (recordAt t (placeOf spot)) item profile) ≡ feedOf t item profile
   unfolding actedOf readItem itemOf tableStep earlyOf unless damage serve
   acts sound = go (isItem (itemIn x) item) (isSetup (itemIn x)) (isProfile (profileOf profile) profile) refl refl refl
     where
-      go : (i s p : Bool) → isItem (itemIn x) item ≡ i → isSetup (itemIn x) ≡ s → profileIs p → put t (placeOf spot) (actedOf spot (entryAt t spot) item profile) ≡ feedOf t item profile
-      go false s p e f g = rw e (keeps-table t (placeOf spot) 1)
+      go : (i s p : Bool) → isItem (itemIn x) item ≡ i → isSetup (itemIn x) ≡ s → profileIs p → put t (placeOf spot) (callIn item) (actedOf spot (recordAt t (placeOf spot)) item profile) ≡ feedOf t item profile
+      go false s p e f g = rw e (keeps-table t (placeOf spot) (callIn item) 1)
       go true true false e f g = rw (e, f, g) (setup-refused-at t x (setup-refused (itemIn x) (restIn x) profile (item-fits (itemIn x) item e) f g) spot)
       go true true true e f g = rw (e, f, g, sound) (setup-at t x (setup-opens (itemIn x) (restIn x) profile (item-fits (itemIn x) item e) f g) own free refl)
       go true false p e f g = rw (e, f, sound) (other-at t x own free)

@@ -8,4 +8,3 @@ pub use Rattle.call.specs.declared.answers.Stepped.{Stepped}
 pub use Rattle.table.specs.declared.entry.Owner.{Owner}
 pub use Rattle.table.specs.declared.entry.Entry.{Entry}
 pub use Rattle.table.specs.declared.lookup.Spot.{Spot}
-pub use Rattle.table.specs.declared.serve.Acted.{Acted}

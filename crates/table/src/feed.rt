@@ -14,11 +14,12 @@ pub fn feed_sound(table: &mut [Entry], item: &[u8], profile: &[u8]) -> Answer
     requires { ⌜ isSoundTable (now table) ≡ true ⌝ }
     ensures { λ a. ⌜ ((a, now (table .exit)) ≡ feedOf (now (table .entry)) (now (item .entry)) (now (profile .entry))) × (isSoundTable (now (table .exit)) ≡ true) ⌝ }
 {
-    let s = lookup::locate(table, item::call_in(item));
+    let call = item::call_in(item);
+    let s = lookup::locate(table, call);
     let i = lookup::place_of(s);
     let e = table[i];
     let a = serve::act(e, s, item, profile);
-    table[i] = serve::entry_of(a);
+    table[i] = serve::entry_after(e, call, a);
     serve::answer_of(a)
 }
 

@@ -1,8 +1,9 @@
 // Where an item's call stands in the table, or where a Setup may go.
 ghost use mathlib.Core.Path.{_≡_};
-ghost use Prim.Native.Nat.{_≤_, _+_, _<_};
 ghost use lib.ListN.{length};
-ghost use Rattle.table.specs.Lookup.{locateOf, placeOf, spotAt, seen, further};
+ghost use Rattle.table.specs.Table.{find, isNone, isCall};
+ghost use Rattle.table.specs.Entry.{ownerOf};
+ghost use Rattle.table.specs.Lookup.{locateOf, placeOf, isOf, placeIn};
 use crate::entry::Entry;
 use crate::entry::Owner;
 
@@ -13,54 +14,65 @@ pub enum Spot {
     Own(usize),
 }
 
-// What an entry at a place is to a call.
-fn spot_at(owner: Owner, i: usize, call: u32) -> Spot
-    ensures { λ s. ⌜ s ≡ spotAt call i owner ⌝ }
+fn is_free(owner: Owner) -> bool
+    ensures { λ b. ⌜ b ≡ isNone (ownerOf owner) ⌝ }
 {
     match owner {
-        Owner::Free => Spot::Free(i),
-        Owner::Call(k) => {
-            if k == call {
-                Spot::Own(i)
-            } else {
-                Spot::Nowhere
-            }
-        }
+        Owner::Free => true,
+        Owner::Call(_) => false,
     }
 }
 
-// What was seen so far, and then what comes next.
-fn see(s: Spot, next: Spot) -> Spot
-    ensures { λ r. ⌜ r ≡ seen s next ⌝ }
+fn is_call(owner: Owner, call: u32) -> bool
+    ensures { λ b. ⌜ b ≡ isCall call (ownerOf owner) ⌝ }
 {
-    match s {
-        Spot::Nowhere => next,
-        Spot::Free(i) => match next {
-            Spot::Nowhere => Spot::Free(i),
-            Spot::Free(j) => Spot::Free(i),
-            Spot::Own(j) => Spot::Own(j),
-        },
-        Spot::Own(i) => Spot::Own(i),
+    match owner {
+        Owner::Free => false,
+        Owner::Call(k) => k == call,
     }
 }
 
-pub(crate) fn notice(s: Spot, e: Entry, i: usize, call: u32) -> Spot
-    ensures { λ r. ⌜ r ≡ seen s (spotAt call i (e .owner)) ⌝ }
+// The entry has the owner that is looked for.
+pub(crate) fn is_of(wanted: Owner, e: Entry) -> bool
+    ensures { λ b. ⌜ b ≡ isOf wanted e ⌝ }
 {
     let owner = e.owner;
-    see(s, spot_at(owner, i, call))
+    match wanted {
+        Owner::Free => is_free(owner),
+        Owner::Call(k) => is_call(owner, k),
+    }
 }
 
-// The place to look at next: none once the call's entry is found.
-pub(crate) fn next_place(s: Spot, i: usize) -> usize
-    requires { ⌜ i < 64 ⌝ }
-    ensures { λ r. ⌜ (r ≡ further s i) × ((i + 1 ≤ r) × (r ≤ 64)) ⌝ }
+// The place of the first entry that has the owner; 64 where none has.
+pub(crate) fn first_of(table: &[Entry], wanted: Owner) -> usize
+    requires { ⌜ length (now table) ≡ 64 ⌝ }
+    ensures { λ i. ⌜ i ≡ placeIn (find (isOf wanted) (now (table .entry))) ⌝ }
 {
-    match s {
-        Spot::Nowhere => i + 1,
-        Spot::Free(j) => i + 1,
-        Spot::Own(j) => 64,
+    let mut i = 0;
+    while i < 64 {
+        let e = table[i];
+        if is_of(wanted, e) {
+            return i;
+        }
+        i += 1;
     }
+    64
+}
+
+// The call's entry, or else the lowest free one, which is looked for only then.
+pub(crate) fn locate(table: &[Entry], call: u32) -> Spot
+    requires { ⌜ length (now table) ≡ 64 ⌝ }
+    ensures { λ s. ⌜ s ≡ locateOf call (now (table .entry)) ⌝ }
+{
+    let own = first_of(table, Owner::Call(call));
+    if own < 64 {
+        return Spot::Own(own);
+    }
+    let free = first_of(table, Owner::Free);
+    if free < 64 {
+        return Spot::Free(free);
+    }
+    Spot::Nowhere
 }
 
 // The place of the entry that is looked at; where there is none, the first, which then stays as it is.
@@ -72,20 +84,4 @@ pub(crate) fn place_of(s: Spot) -> usize
         Spot::Free(i) => i,
         Spot::Own(i) => i,
     }
-}
-
-// The call's entry, or else the lowest free one.
-pub(crate) fn locate(table: &[Entry], call: u32) -> Spot
-    requires { ⌜ length (now table) ≡ 64 ⌝ }
-    ensures { λ s. ⌜ s ≡ locateOf call (now (table .entry)) ⌝ }
-{
-    let mut s = Spot::Nowhere;
-    let mut i = 0;
-    while i < 64 {
-        let e = table[i];
-        let q = notice(s, e, i, call);
-        s = q;
-        i = next_place(q, i);
-    }
-    s
 }

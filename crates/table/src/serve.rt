@@ -3,12 +3,13 @@ ghost use mathlib.Core.Path.{_≡_};
 ghost use mathlib.Core.Bool.{cond, _&&_};
 ghost use lib.Dec.{eqb};
 ghost use Rattle.forms.specs.Item.{formOf};
-ghost use Rattle.table.specs.Serve.{kept, denied, stored, setUp, met, actedOn, actedOf, isRefused, damagedOf};
-use crate::entry;
+ghost use Rattle.call.specs.Answers.{refused};
+ghost use Rattle.table.specs.Serve.{denied, openedAs, setUp, met, actedOn, actedOf, ownerAfter, entryAfter, isRefused, damagedOf};
 use crate::entry::Entry;
 use crate::entry::Owner;
 use crate::lookup::Spot;
 use call::answers::*;
+use call::record::Record;
 use call::setup;
 use call::step;
 use forms::bytes;
@@ -16,26 +17,6 @@ use forms::item;
 use forms::item::*;
 use forms::profile;
 use forms::profile::ReadProfile;
-
-// The answer, and the entry afterwards.
-pub(crate) struct Acted {
-    pub answer: Answer,
-    pub entry: Entry,
-}
-
-pub(crate) fn answer_of(a: Acted) -> Answer
-    ensures { λ r. ⌜ r ≡ a .answer ⌝ }
-{
-    let answer = a.answer;
-    answer
-}
-
-pub(crate) fn entry_of(a: Acted) -> Entry
-    ensures { λ r. ⌜ r ≡ a .entry ⌝ }
-{
-    let entry = a.entry;
-    entry
-}
 
 fn is_setup(body: Body) -> bool
     ensures { λ b. ⌜ b ≡ eqb (formOf body .kind) 1 ⌝ }
@@ -46,90 +27,113 @@ fn is_setup(body: Body) -> bool
     }
 }
 
-// A refusal changes nothing.
-fn keep(e: Entry, n: u8) -> Acted
-    ensures { λ a. ⌜ a ≡ kept e n ⌝ }
+// A refusal leaves the record.
+fn refuse(r: Record, n: u8) -> Stepped
+    ensures { λ s. ⌜ s ≡ refused r n ⌝ }
 {
     let answer = Answer::Refused(n);
-    Acted { answer, entry: e }
+    Stepped { answer, next: r }
 }
 
 // A Setup that can open no call: the refusal that comes before, else n.
-fn deny(e: Entry, answer: Answer, n: u8) -> Acted
-    ensures { λ a. ⌜ a ≡ denied e answer n ⌝ }
+fn deny(r: Record, answer: Answer, n: u8) -> Stepped
+    ensures { λ s. ⌜ s ≡ denied r answer n ⌝ }
 {
     match answer {
-        Answer::Accepted(o) => keep(e, n),
-        Answer::Refused(m) => keep(e, m),
+        Answer::Accepted(o) => refuse(r, n),
+        Answer::Refused(m) => refuse(r, m),
     }
 }
 
-// What `call` made of an item for call k: the entry stays, has the next record, or is free.
-fn store(e: Entry, k: u32, s: Stepped) -> Acted
-    ensures { λ a. ⌜ a ≡ stored e k s ⌝ }
+// A Setup for a free entry, of which `call` made an answer and a next record.
+fn open(r: Record, answer: Answer, next: Record) -> Stepped
+    ensures { λ s. ⌜ s ≡ openedAs r answer next ⌝ }
 {
-    let answer = s.answer;
-    let body = s.next;
     match answer {
-        Answer::Accepted(o) => {
-            if o.over {
-                let entry = entry::blank_entry();
-                Acted { answer, entry }
-            } else {
-                let owner = Owner::Call(k);
-                let entry = Entry { owner, body };
-                Acted { answer, entry }
-            }
-        }
-        Answer::Refused(n) => keep(e, n),
+        Answer::Accepted(o) => Stepped { answer, next },
+        Answer::Refused(n) => refuse(r, n),
     }
 }
 
 // A Setup, of which `call` made o.
-fn set_up(e: Entry, s: Spot, k: u32, o: Stepped) -> Acted
-    ensures { λ a. ⌜ a ≡ setUp s e k o ⌝ }
+fn set_up(r: Record, s: Spot, o: Stepped) -> Stepped
+    ensures { λ q. ⌜ q ≡ setUp s r o ⌝ }
 {
     let answer = o.answer;
+    let next = o.next;
     match s {
-        Spot::Nowhere => deny(e, answer, 6),
-        Spot::Free(_) => store(e, k, o),
-        Spot::Own(_) => deny(e, answer, 5),
+        Spot::Nowhere => deny(r, answer, 6),
+        Spot::Free(_) => open(r, answer, next),
+        Spot::Own(_) => deny(r, answer, 5),
     }
 }
 
 // All but a Setup.
-fn meet(e: Entry, s: Spot, i: Item, rest: &[u8]) -> Acted
-    ensures { λ a. ⌜ a ≡ met s e i (now (rest .entry)) ⌝ }
+fn meet(r: Record, s: Spot, i: Item, rest: &[u8]) -> Stepped
+    ensures { λ q. ⌜ q ≡ met s r i (now (rest .entry)) ⌝ }
 {
-    let r = e.body;
     match s {
-        Spot::Nowhere => keep(e, 4),
-        Spot::Free(_) => keep(e, 4),
-        Spot::Own(_) => store(e, i.call, step::respond(r, i, rest)),
+        Spot::Nowhere => refuse(r, 4),
+        Spot::Free(_) => refuse(r, 4),
+        Spot::Own(_) => step::respond(r, i, rest),
     }
 }
 
 // A well-formed item.
-fn act_on(e: Entry, s: Spot, i: Item, rest: &[u8], profile: &[u8]) -> Acted
-    ensures { λ a. ⌜ a ≡ actedOn s e i (now (rest .entry)) (now (profile .entry)) ⌝ }
+fn act_on(r: Record, s: Spot, i: Item, rest: &[u8], profile: &[u8]) -> Stepped
+    ensures { λ q. ⌜ q ≡ actedOn s r i (now (rest .entry)) (now (profile .entry)) ⌝ }
 {
     let body = i.body;
     if is_setup(body) {
-        set_up(e, s, i.call, setup::open(i, rest, profile))
+        set_up(r, s, setup::open(i, rest, profile))
     } else {
-        meet(e, s, i, rest)
+        meet(r, s, i, rest)
     }
 }
 
 // The bytes of an item and of a profile, for the entry that stands at the spot.
-pub(crate) fn act(e: Entry, s: Spot, bytes: &[u8], profile: &[u8]) -> Acted
-    ensures { λ a. ⌜ a ≡ actedOf s e (now (bytes .entry)) (now (profile .entry)) ⌝ }
+pub(crate) fn act(e: Entry, s: Spot, bytes: &[u8], profile: &[u8]) -> Stepped
+    ensures { λ q. ⌜ q ≡ actedOf s (e .body) (now (bytes .entry)) (now (profile .entry)) ⌝ }
 {
+    let r = e.body;
     let read = item::read_item(bytes);
     match read {
-        ReadItem::Item(i, at) => act_on(e, s, i, bytes::from(bytes, at), profile),
-        ReadItem::Refused(n) => keep(e, n),
+        ReadItem::Item(i, at) => act_on(r, s, i, bytes::from(bytes, at), profile),
+        ReadItem::Refused(n) => refuse(r, n),
     }
+}
+
+// The slot of a call that is over is free again.
+fn owner_after(owner: Owner, call: u32, answer: Answer) -> Owner
+    ensures { λ w. ⌜ w ≡ ownerAfter owner call answer ⌝ }
+{
+    match answer {
+        Answer::Accepted(o) => {
+            if o.over {
+                Owner::Free
+            } else {
+                Owner::Call(call)
+            }
+        }
+        Answer::Refused(_) => owner,
+    }
+}
+
+// The record that remains stands in the entry whatever the answer is: it is the old one after a refusal, and blank when the call is over.
+pub(crate) fn entry_after(e: Entry, call: u32, s: Stepped) -> Entry
+    ensures { λ q. ⌜ q ≡ entryAfter e call s ⌝ }
+{
+    let old = e.owner;
+    let answer = s.answer;
+    let body = s.next;
+    let owner = owner_after(old, call, answer);
+    Entry { owner, body }
+}
+
+pub(crate) fn answer_of(s: Stepped) -> Answer
+    ensures { λ a. ⌜ a ≡ s .answer ⌝ }
+{
+    s.answer
 }
 
 fn damage_after(setup: bool, profile: ReadProfile) -> u8

@@ -18,7 +18,7 @@ locate-requires c κs = let s = c .before .before .before .before in sound-size 
 placed : (p : tie.After-place-of) → p .place-of .result < 64
 placed p =
     let s = p .before .before .before .before .before .before in
-    found-inside (s .args .table .now) (s .args .item .now) (s .args .profile .now) (s .pre) _ _ _ (p .before .before .call-in .ensures) (p .before .locate .ensures) (p .place-of .ensures)
+    found-inside (s .args .table .now) (s .args .item .now) (s .args .profile .now) (s .pre) _ _ _ (p .before .before .before .call-in .ensures) (p .before .locate .ensures) (p .place-of .ensures)
 
 size : (p : tie.After-place-of) → length (p .before .before .before .before .before .before .args .table .now) ≡ 64
 size p = let s = p .before .before .before .before .before .before in sound-size (s .args .table .now) (s .args .item .now) (s .args .profile .now) (s .pre)
@@ -27,7 +27,7 @@ returns : tie.Need-returns
 returns c =
     let p = c .before .before .before .before in
     let s = p .before .before .before .before .before .before in
-    rw (c .answer-of .ensures, c .before .entry-of .ensures, c .before .before .act .ensures, p .place-of .ensures, p .before .locate .ensures, p .before .before .call-in .ensures)
+    rw (c .answer-of .ensures, c .before .entry-after .ensures, c .before .before .act .ensures, p .place-of .ensures, p .before .locate .ensures, p .before .before .before .call-in .ensures)
     (fed-stays (s .args .table .now) _ (s .args .item .now) (s .args .profile .now) _ (s .pre) (acts (s .args .table .now) (s .args .item .now) (s .args .profile .now) (s .pre)))
 
 pub feed-sound-spec : {M : Type 1} → statement M

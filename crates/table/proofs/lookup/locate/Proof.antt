@@ -1,34 +1,25 @@
 -- `lookup::locate` meets its contract. (`Proof/` is made by tools/transplant.py.)
 mod Lts
 mod Tie
-use mathlib.Core.Path.{refl}
-use Prim.Native.Nat.{_≤_, _-_}
-use native.Mathlib.Omega.{arith}
 use borrow.Author.Needs.{needs}
-use Rattle.table.proofs.LookupLaws.{Passed, passed-on, passed-end}
+use Rattle.table.proofs.LookupLaws.{own-located, free-located, not-located}
 use Rattle.table.proofs.lookup.locate.Statement.{statement}
 use Rattle.table.proofs.lookup.locate.Proof.Tie as tie
 
-abbrev Inv-loop : tie.InvT-loop
-Inv-loop table call s₀ i₀ s i = (i ≤ 64) × Passed call table s i
+returns : tie.Need-returns
+returns c = let p = c .before .before in own-located (p .args .table .now) (p .pre) (p .args .call) _ (c .before .first-of .ensures) (c .if1 .taken)
 
-abbrev μ-loop : tie.MeasureT-loop
-μ-loop table call s₀ i₀ s i = 64 - i
+returns-2 : tie.Need-returns-2
+returns-2 c =
+    let q = c .before .before in
+    let p = q .before .before in
+    free-located (p .args .table .now) (p .pre) (p .args .call) _ (q .before .first-of .ensures) (q .if1 .left) _ (c .before .first-of-02 .ensures) (c .if2 .taken)
 
-loop-again : tie.Need-loop-again Inv-loop μ-loop
-loop-again c =
-    let l = c .before .before .before .before in
-    let a = l .before .args in
-    (omega arith, rw (c .next-place .ensures .0, c .before .notice .ensures) (passed-on (a .call) (a .table .now) (l .loop .s) (l .loop .i) (omega arith) (l .loop .inv .1)))
-
-returns : tie.Need-returns Inv-loop μ-loop
-returns c =
-    let a = c .before .before .args in
-    passed-end (a .call) (a .table .now) (c .before .loop .s) (c .before .loop .i) (omega arith) (c .before .loop .inv .1)
+returns-3 : tie.Need-returns-3
+returns-3 c =
+    let q = c .before .before in
+    let p = q .before .before in
+    not-located (p .args .table .now) (p .pre) (p .args .call) _ (q .before .first-of .ensures) (q .if1 .left) _ (c .before .first-of-02 .ensures) (c .if2 .left)
 
 pub locate-spec : {M : Type 1} → statement M
-locate-spec =
-    tie.close
-    (tie.spec
-    Inv-loop μ-loop (λ c. (omega arith, refl)) (λ c. search needs) (λ c. search needs) (λ c κs. search needs) (λ c κs. search needs)
-    (λ c. omega arith) loop-again returns)
+locate-spec = tie.close (tie.spec (λ c κs. search needs) returns (λ c κs. search needs) returns-2 returns-3)

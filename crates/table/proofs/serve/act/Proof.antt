@@ -10,7 +10,7 @@ returns c = rw (c .act-on .ensures, c .before .from .ensures, ← c .before .bef
 
 returns-2 : tie.Need-returns-2
 unfolding actedOf
-returns-2 c = rw (c .keep .ensures, ← c .before .before .before .before .read-item .ensures, c .before .before .read2 .given .1)
+returns-2 c = rw (c .refuse .ensures, ← c .before .before .before .before .read-item .ensures, c .before .before .read2 .given .1)
 
 pub act-spec : {M : Type 1} → statement M
 act-spec =

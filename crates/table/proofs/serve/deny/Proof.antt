@@ -4,10 +4,10 @@ use Rattle.table.proofs.serve.deny.Statement.{statement}
 use Rattle.table.proofs.serve.deny.Tie as tie
 
 returns : tie.Need-returns
-returns c = rw (c .keep .ensures, c .before .before .answer .given .1)
+returns c = rw (c .refuse .ensures, c .before .before .answer .given .1)
 
 returns-2 : tie.Need-returns-2
-returns-2 c = rw (c .keep2 .ensures, c .before .before .answer2 .given .1)
+returns-2 c = rw (c .refuse2 .ensures, c .before .before .answer2 .given .1)
 
 pub deny-spec : {M : Type 1} → statement M
 deny-spec =

@@ -8,5 +8,5 @@ set-up-spec =
     tie.close
     (tie.spec (search needs) (search needs) (search needs) (search needs) (search needs) (search needs)
     (λ c. rw (c .deny .ensures, c .before .enum-told .given .1))
-    (λ c. rw (c .store .ensures, c .before .enum-told2 .given .1))
+    (λ c. rw (c .«open» .ensures, c .before .enum-told2 .given .1))
     (λ c. rw (c .deny2 .ensures, c .before .enum-told3 .given .1)))

@@ -8,10 +8,10 @@ use Rattle.table.proofs.Elem
 use Prim.Native.Nat.{ℕ}
 use Rattle.call.proofs.answers.Answer
 use Rattle.call.proofs.answers.Answer.Laws
+use Rattle.call.proofs.answers.Stepped
+use Rattle.call.proofs.answers.Stepped.Laws as Laws'
 use Rattle.table.proofs.lookup.Spot
-use Rattle.table.proofs.lookup.Spot.Laws as Laws'
-use Rattle.table.proofs.serve.Acted
-use Rattle.table.proofs.serve.Acted.Laws as Laws''
+use Rattle.table.proofs.lookup.Spot.Laws as Laws''
 use borrow.Author.Called.{Called}
 use borrow.Fn.Any
 use borrow.Fn.Call.{callB, sub-id}
@@ -22,7 +22,7 @@ use borrow.Fn.Kinds
 use borrow.Fn.Kinds.{Den, Dens, In, Out, PK, RK}
 use borrow.Fn.Plain.{Known, t-call-plain, t-fn-plain}
 use borrow.Kind.MutSlice.{SameLen, fix-len, pMutS}
-use borrow.Kind.Num
+use borrow.Kind.Num.{pNum, rNum, vAt}
 use borrow.Kind.ShrSlice.{pShrS, spares-sslice}
 use borrow.Rule.DerefMove
 use borrow.Rule.Lifetime
@@ -59,8 +59,11 @@ use mir.Syntax.{Body, Home, Ty, addrOf, aggregate, assign, call, copy, deref, er
 use prog.Wp
 use types.Kit.{Given}
 
-abbrev Acted·row : RattleType
-Acted·row = Declared'.row Acted.the-type
+abbrev Stepped·row : RattleType
+Stepped·row = Declared'.row Stepped.the-type
+
+abbrev Answer·row : RattleType
+Answer·row = row Answer.the-type
 
 abbrev Spot·row : RattleType
 Spot·row = row Spot.the-type
@@ -84,7 +87,7 @@ abbrev en·0 : Entry
 en·0 = (11, any-gone (tyInt w64))
 
 abbrev en·1 : Entry
-en·1 = (10, any-gone (tyInt w32))
+en·1 = (4, sc-here (sInt w32))
 
 abbrev en·2 : Entry
 en·2 = (3, sslice u8 ty·4 2)
@@ -102,91 +105,88 @@ abbrev en·6 : Entry
 en·6 = (0, any-gone Laws.mir)
 
 abbrev en·7 : Entry
-en·7 = (6, any-gone Elem.ty)
+en·7 = (6, sc-here (sInt w64))
 
 abbrev en·8 : Entry
-en·8 = (8, any-gone ty·3)
+en·8 = (1, mslice Elem.row ty·1 0)
 
 abbrev en·9 : Entry
-en·9 = (5, any-gone (tyInt w64))
+en·9 = (7, any-gone Elem.ty)
 
 abbrev en·10 : Entry
-en·10 = (13, any-gone Elem.ty)
+en·10 = (9, any-gone ty·3)
 
 abbrev en·11 : Entry
-en·11 = (7, any-gone Laws''.mir)
+en·11 = (10, any-gone ty·0)
 
 abbrev en·12 : Entry
-en·12 = (5, sc-here (sInt w64))
+en·12 = (13, any-gone Elem.ty)
 
 abbrev en·13 : Entry
-en·13 = (1, mslice Elem.row ty·1 0)
+en·13 = (6, any-gone (tyInt w64))
 
 abbrev en·14 : Entry
-en·14 = (9, any-gone ty·0)
+en·14 = (8, any-gone Laws'.mir)
 
 abbrev en·15 : Entry
-en·15 = (4, any-gone Laws'.mir)
+en·15 = (5, any-gone Laws''.mir)
 
 abbrev en·16 : Entry
-en·16 = (4, whole Spot·row)
+en·16 = (5, whole Spot·row)
 
 abbrev en·17 : Entry
-en·17 = (1, mslice-owedS Elem.row ty·1 0 3 off)
+en·17 = (8, whole Stepped·row)
 
 abbrev en·18 : Entry
-en·18 = (7, whole Acted·row)
+en·18 = (13, whole Elem.row)
 
 abbrev en·19 : Entry
-en·19 = (10, sc-here (sInt w32))
+en·19 = (11, sc-here (sInt w64))
 
 abbrev en·20 : Entry
-en·20 = (13, whole Elem.row)
+en·20 = (1, mslice-owedS Elem.row ty·1 0 3 off)
 
 abbrev en·21 : Entry
-en·21 = (11, sc-here (sInt w64))
-
-abbrev en·22 : Entry
-en·22 = (9, sslice Elem.row ty·3 3)
+en·21 = (4, any-gone (tyInt w32))
 
 abbrev en·23 : Entry
-en·23 = (0, whole (row Answer.the-type))
+en·23 = (7, whole Elem.row)
 
 abbrev en·24 : Entry
-en·24 = (6, whole Elem.row)
+en·24 = (0, whole Answer·row)
 
 abbrev en·26 : Entry
 en·26 = (12, sc-here sPtr)
 
 abbrev es·0 : List Entry
-es·0 = en·0 ∷ en·5 ∷ en·10 ∷ en·4 ∷ []
+es·0 = en·10 ∷ en·11 ∷ en·0 ∷ en·5 ∷ en·12 ∷ en·4 ∷ []
 
 abbrev es·1 : List Entry
-es·1 = en·8 ∷ en·14 ∷ en·1 ∷ es·0
+es·1 = en·13 ∷ en·9 ∷ en·14 ∷ en·10 ∷ ((10, sslice Elem.row ty·3 3)) ∷ en·0 ∷ en·5 ∷ en·12 ∷ en·4 ∷ []
 
 abbrev es·2 : List Entry
-es·2 = en·9 ∷ en·7 ∷ en·11 ∷ en·8 ∷ en·22 ∷ en·19 ∷ es·0
+es·2 = en·10 ∷ en·11 ∷ en·0 ∷ en·5 ∷ en·18 ∷ en·4 ∷ []
 
 abbrev es·3 : List Entry
-es·3 = en·8 ∷ en·14 ∷ en·1 ∷ en·0 ∷ en·5 ∷ en·20 ∷ en·4 ∷ []
+es·3 = en·3 ∷ en·2 ∷ en·1 ∷ en·16 ∷ en·13 ∷ en·9 ∷ en·14 ∷ es·0
 
 abbrev es·4 : List Entry
-es·4 = en·3 ∷ en·2 ∷ en·16 ∷ en·9 ∷ en·7 ∷ en·11 ∷ es·1
+es·4 = en·15 ∷ en·13 ∷ en·9 ∷ en·14 ∷ es·0
 
 abbrev es·5 : List Entry
-es·5 = en·20 ∷ en·4 ∷ []
+es·5 = en·15 ∷ en·7 ∷ en·9 ∷ en·17 ∷ es·0
 
 abbrev es·6 : List Entry
-es·6 = en·7 ∷ en·18 ∷ es·1
+es·6 = en·5 ∷ en·12 ∷ en·4 ∷ []
 
 abbrev es·7 : List Entry
-es·7 = en·7 ∷ en·11 ∷ es·1
+es·7 = en·18 ∷ en·4 ∷ []
 
 abbrev es·8 : List Entry
-es·8 = en·1 ∷ es·0
+es·8 = ((14, sc-here sPtr)) ∷ []
 
 abbrev es·9 : List Entry
-es·9 = ((14, sc-here sPtr)) ∷ []
+es·9 = en·17 ∷ es·0
 
 abbrev ps : List (PK 3)
 ps = (pMutS Elem.row 0 tt) ∷ (pShrS u8 1 tt) ∷ (pShrS u8 2 tt) ∷ []
@@ -195,7 +195,7 @@ abbrev r : RK 3
 r = ByValue.enum-res Answer.the-type Laws.the-laws Laws.the-copy Laws.the-plain refl tt
 
 abbrev xs : List Ty
-xs = Laws'.mir ∷ (tyInt w64) ∷ Elem.ty ∷ Laws''.mir ∷ ty·3 ∷ ty·0 ∷ (tyInt w32) ∷ (tyInt w64) ∷ tyPtr ∷ Elem.ty ∷ tyPtr ∷ []
+xs = (tyInt w32) ∷ Laws''.mir ∷ (tyInt w64) ∷ Elem.ty ∷ Laws'.mir ∷ ty·3 ∷ ty·0 ∷ (tyInt w64) ∷ tyPtr ∷ Elem.ty ∷ tyPtr ∷ []
 
 abbrev m : ℕ
 m = 1
@@ -204,31 +204,34 @@ abbrev ps·0 : List (PK 1)
 ps·0 = (pShrS u8 0 tt) ∷ []
 
 abbrev r·0 : RK 1
-r·0 = Num.rNum w32
+r·0 = rNum w32
 
 abbrev ps·1 : List (PK 1)
-ps·1 = (pShrS Elem.row 0 tt) ∷ (Num.pNum w32) ∷ []
+ps·1 = (pShrS Elem.row 0 tt) ∷ (pNum w32) ∷ []
 
 abbrev r·1 : RK 1
-r·1 = ByValue.enum-res Spot.the-type Laws'.the-laws Laws'.the-copy Laws'.the-plain refl tt
+r·1 = ByValue.enum-res Spot.the-type Laws''.the-laws Laws''.the-copy Laws''.the-plain refl tt
 
 abbrev ps·2 : List (PK 0)
-ps·2 = (ByValue.enum-par Spot.the-type Laws'.the-laws Laws'.the-copy Laws'.the-plain refl tt) ∷ []
+ps·2 = (ByValue.enum-par Spot.the-type Laws''.the-laws Laws''.the-copy Laws''.the-plain refl tt) ∷ []
 
 abbrev r·2 : RK 0
-r·2 = Num.rNum w64
+r·2 = rNum w64
 
 abbrev ps·3 : List (PK 2)
-ps·3 = Elem.par ∷ (ByValue.enum-par Spot.the-type Laws'.the-laws Laws'.the-copy Laws'.the-plain refl tt) ∷ (pShrS u8 0 tt) ∷ (pShrS u8 1 tt) ∷ []
+ps·3 = Elem.par ∷ (ByValue.enum-par Spot.the-type Laws''.the-laws Laws''.the-copy Laws''.the-plain refl tt) ∷ (pShrS u8 0 tt) ∷ (pShrS u8 1 tt) ∷ []
 
 abbrev r·3 : RK 2
-r·3 = ByValue.struct-res Acted.the-type Laws''.the-laws Laws''.the-copy Laws''.the-plain refl
+r·3 = ByValue.struct-res Stepped.the-type Laws'.the-laws Laws'.the-copy Laws'.the-plain refl
 
 abbrev ps·4 : List (PK 0)
-ps·4 = (ByValue.struct-par Acted.the-type Laws''.the-laws Laws''.the-copy Laws''.the-plain refl) ∷ []
+ps·4 = Elem.par ∷ (pNum w32) ∷ (ByValue.struct-par Stepped.the-type Laws'.the-laws Laws'.the-copy Laws'.the-plain refl) ∷ []
 
 abbrev r·4 : RK 0
 r·4 = Elem.res
+
+abbrev ps·5 : List (PK 0)
+ps·5 = (ByValue.struct-par Stepped.the-type Laws'.the-laws Laws'.the-copy Laws'.the-plain refl) ∷ []
 
 abbrev r·5 : RK 0
 r·5 = ByValue.enum-res Answer.the-type Laws.the-laws Laws.the-copy Laws.the-plain refl tt
@@ -237,88 +240,97 @@ abbrev hs : List Home
 hs = valueLocal ∷ valueLocal ∷ valueLocal ∷ valueLocal ∷ valueLocal ∷ valueLocal ∷ valueLocal ∷ valueLocal ∷ valueLocal ∷ valueLocal ∷ valueLocal ∷ valueLocal ∷ valueLocal ∷ valueLocal ∷ valueLocal ∷ []
 
 abbrev b5 : Body
-b5 = assign (place 11 []) (op2 (mul unsigned) (copy (place 5 [])) (int w64 136))
+b5 = assign (place 11 []) (op2 (mul unsigned) (copy (place 6 [])) (int w64 136))
 
-abbrev b20 : Body
-b20 = seq (call "table::serve::entry_of" ((copy (place 7 [])) ∷ []) (place 13 [])) (seq b5 (seq (assign (place 14 []) (op2 offset (copy (place 1 ((field 0) ∷ []))) (copy (place 11 [])))) (seq (assign (place 14 ((deref Elem.ty) ∷ [])) (rvOpd (copy (place 13 [])))) (seq (call "table::serve::answer_of" ((copy (place 7 [])) ∷ []) (place 0 [])) return))))
+abbrev b19 : Body
+b19 = seq b5 (seq (assign (place 14 []) (op2 offset (copy (place 1 ((field 0) ∷ []))) (copy (place 11 [])))) (seq (assign (place 14 ((deref Elem.ty) ∷ [])) (rvOpd (copy (place 13 [])))) (seq (call "table::serve::answer_of" ((copy (place 8 [])) ∷ []) (place 0 [])) return)))
 
-abbrev b23 : Body
-b23 = seq (assign (place 13 []) (rvOpd (copy (place 12 ((deref Elem.ty) ∷ []))))) (seq (assign (place 6 []) (rvOpd (copy (place 13 [])))) (seq (call "table::serve::act" ((copy (place 6 [])) ∷ (copy (place 4 [])) ∷ (copy (place 2 [])) ∷ (copy (place 3 [])) ∷ []) (place 7 [])) b20))
+abbrev b22 : Body
+b22 = seq (assign (place 7 []) (rvOpd (copy (place 13 [])))) (seq (call "table::serve::act" ((copy (place 7 [])) ∷ (copy (place 5 [])) ∷ (copy (place 2 [])) ∷ (copy (place 3 [])) ∷ []) (place 8 [])) (seq (call "table::serve::entry_after" ((copy (place 7 [])) ∷ (copy (place 4 [])) ∷ (copy (place 8 [])) ∷ []) (place 13 [])) b19))
 
-abbrev b28 : Body
-b28 = seq (call "forms::item::call_in" ((copy (place 2 [])) ∷ []) (place 10 [])) (seq (call "table::lookup::locate" ((copy (place 9 [])) ∷ (copy (place 10 [])) ∷ []) (place 4 [])) (seq (call "table::lookup::place_of" ((copy (place 4 [])) ∷ []) (place 5 [])) (seq b5 (seq (assign (place 12 []) (op2 offset (copy (place 1 ((field 0) ∷ []))) (copy (place 11 [])))) b23))))
+abbrev b27 : Body
+b27 = seq (call "table::lookup::locate" ((copy (place 10 [])) ∷ (copy (place 4 [])) ∷ []) (place 5 [])) (seq (call "table::lookup::place_of" ((copy (place 5 [])) ∷ []) (place 6 [])) (seq b5 (seq (assign (place 12 []) (op2 offset (copy (place 1 ((field 0) ∷ []))) (copy (place 11 [])))) (seq (assign (place 13 []) (rvOpd (copy (place 12 ((deref Elem.ty) ∷ []))))) b22))))
 
 abbrev b30 : Body
-b30 = seq (assign (place 8 []) (addrOf (place 1 ((field 0) ∷ (deref Elem.ty) ∷ [])))) (seq (assign (place 9 []) (aggregate ((copy (place 8 [])) ∷ (copy (place 1 ((field 1) ∷ []))) ∷ []))) b28)
+b30 = seq (call "forms::item::call_in" ((copy (place 2 [])) ∷ []) (place 4 [])) (seq (assign (place 9 []) (addrOf (place 1 ((field 0) ∷ (deref Elem.ty) ∷ [])))) (seq (assign (place 10 []) (aggregate ((copy (place 9 [])) ∷ (copy (place 1 ((field 1) ∷ []))) ∷ []))) b27))
 
 abbrev body : Body
 body = b30
 
 abbrev pub Claims : Type 1
-Claims = In 1 ps·0 × Out 1 ps·0 r·0 × In 1 ps·1 × Out 1 ps·1 r·1 × In 0 ps·2 × Out 0 ps·2 r·2 × In 2 ps·3 × Out 2 ps·3 r·3 × In 0 ps·4 × Out 0 ps·4 r·4 × In 0 ps·4 × Out 0 ps·4 r·5
+Claims = In 1 ps·0 × Out 1 ps·0 r·0 × In 1 ps·1 × Out 1 ps·1 r·1 × In 0 ps·2 × Out 0 ps·2 r·2 × In 2 ps·3 × Out 2 ps·3 r·3 × In 0 ps·4 × Out 0 ps·4 r·4 × In 0 ps·5 × Out 0 ps·5 r·5
 
 abbrev t0 : List Entry
-t0 = en·6 ∷ en·13 ∷ en·3 ∷ en·2 ∷ en·15 ∷ en·9 ∷ es·7
+t0 = en·6 ∷ en·8 ∷ en·3 ∷ en·2 ∷ en·21 ∷ es·4
 
 abbrev t1 : List Entry
-t1 = en·23 ∷ en·13 ∷ en·3 ∷ en·2 ∷ en·15 ∷ en·9 ∷ es·7
+t1 = en·24 ∷ en·8 ∷ en·3 ∷ en·2 ∷ en·21 ∷ es·4
+
+abbrev t2 : List Entry
+t2 = en·6 ∷ en·8 ∷ en·3 ∷ en·2 ∷ en·1 ∷ es·4
+
+abbrev t7 : List Entry
+t7 = en·6 ∷ en·8 ∷ es·3
 
 abbrev t8 : List Entry
-t8 = en·6 ∷ en·13 ∷ es·4
+t8 = en·6 ∷ en·8 ∷ en·3 ∷ en·2 ∷ en·1 ∷ en·16 ∷ en·7 ∷ en·9 ∷ en·14 ∷ es·0
 
 abbrev t9 : List Entry
-t9 = en·6 ∷ en·13 ∷ en·3 ∷ en·2 ∷ en·16 ∷ en·12 ∷ es·7
+t9 = en·6 ∷ en·8 ∷ en·3 ∷ en·2 ∷ en·1 ∷ en·16 ∷ en·7 ∷ en·9 ∷ en·14 ∷ en·10 ∷ en·11 ∷ en·19 ∷ es·6
 
 abbrev t10 : List Entry
-t10 = en·6 ∷ en·13 ∷ en·3 ∷ en·2 ∷ en·16 ∷ en·12 ∷ en·7 ∷ en·11 ∷ en·8 ∷ en·14 ∷ en·1 ∷ en·21 ∷ en·5 ∷ en·10 ∷ en·4 ∷ []
+t10 = en·6 ∷ en·8 ∷ en·3 ∷ en·2 ∷ en·1 ∷ en·16 ∷ en·7 ∷ en·9 ∷ en·14 ∷ en·10 ∷ en·11 ∷ en·19 ∷ en·26 ∷ en·12 ∷ en·4 ∷ []
 
 abbrev t11 : List Entry
-t11 = en·6 ∷ en·13 ∷ en·3 ∷ en·2 ∷ en·16 ∷ en·12 ∷ en·7 ∷ en·11 ∷ en·8 ∷ en·14 ∷ en·1 ∷ en·21 ∷ en·26 ∷ en·10 ∷ en·4 ∷ []
+t11 = en·6 ∷ en·8 ∷ en·3 ∷ en·2 ∷ en·1 ∷ en·16 ∷ en·7 ∷ en·9 ∷ en·14 ∷ en·10 ∷ en·11 ∷ en·19 ∷ en·26 ∷ es·7
 
 abbrev t12 : List Entry
-t12 = en·6 ∷ en·13 ∷ en·3 ∷ en·2 ∷ en·16 ∷ en·12 ∷ en·7 ∷ en·11 ∷ en·8 ∷ en·14 ∷ en·1 ∷ en·21 ∷ en·26 ∷ es·5
+t12 = en·6 ∷ en·8 ∷ en·3 ∷ en·2 ∷ en·1 ∷ en·16 ∷ en·7 ∷ en·9 ∷ en·14 ∷ en·10 ∷ en·11 ∷ en·0 ∷ en·26 ∷ es·7
 
 abbrev t13 : List Entry
-t13 = en·6 ∷ en·13 ∷ en·3 ∷ en·2 ∷ en·16 ∷ en·12 ∷ en·7 ∷ en·11 ∷ en·8 ∷ en·14 ∷ en·1 ∷ en·0 ∷ en·26 ∷ es·5
+t13 = en·6 ∷ en·8 ∷ en·3 ∷ en·2 ∷ en·1 ∷ en·16 ∷ en·7 ∷ en·9 ∷ en·14 ∷ es·2
 
 abbrev t14 : List Entry
-t14 = en·6 ∷ en·13 ∷ en·3 ∷ en·2 ∷ en·16 ∷ en·12 ∷ en·7 ∷ en·11 ∷ es·3
+t14 = en·6 ∷ en·8 ∷ en·3 ∷ en·2 ∷ en·1 ∷ en·16 ∷ en·7 ∷ en·23 ∷ en·14 ∷ es·2
 
 abbrev t15 : List Entry
-t15 = en·6 ∷ en·13 ∷ en·3 ∷ en·2 ∷ en·16 ∷ en·12 ∷ en·24 ∷ en·11 ∷ es·3
+t15 = en·6 ∷ en·8 ∷ en·3 ∷ en·2 ∷ en·1 ∷ en·16 ∷ en·7 ∷ en·23 ∷ en·14 ∷ es·0
 
 abbrev t16 : List Entry
-t16 = en·6 ∷ en·13 ∷ en·3 ∷ en·2 ∷ en·16 ∷ en·12 ∷ en·24 ∷ en·11 ∷ es·1
+t16 = en·6 ∷ en·8 ∷ en·3 ∷ en·2 ∷ en·1 ∷ en·16 ∷ en·7 ∷ en·23 ∷ es·9
 
 abbrev t17 : List Entry
-t17 = en·6 ∷ en·13 ∷ en·3 ∷ en·2 ∷ en·16 ∷ en·12 ∷ en·24 ∷ en·18 ∷ es·1
+t17 = en·6 ∷ en·8 ∷ en·3 ∷ en·2 ∷ en·1 ∷ en·15 ∷ en·7 ∷ en·23 ∷ es·9
 
 abbrev t18 : List Entry
-t18 = en·6 ∷ en·13 ∷ en·3 ∷ en·2 ∷ en·15 ∷ en·12 ∷ en·24 ∷ en·18 ∷ es·1
+t18 = en·6 ∷ en·8 ∷ en·3 ∷ en·2 ∷ en·1 ∷ en·15 ∷ en·7 ∷ en·23 ∷ en·17 ∷ es·2
 
 abbrev t19 : List Entry
-t19 = en·6 ∷ en·13 ∷ en·3 ∷ en·2 ∷ en·15 ∷ en·12 ∷ es·6
+t19 = en·6 ∷ en·8 ∷ en·3 ∷ en·2 ∷ en·1 ∷ en·15 ∷ en·7 ∷ en·9 ∷ en·17 ∷ es·2
 
 abbrev t20 : List Entry
-t20 = en·6 ∷ en·13 ∷ en·3 ∷ en·2 ∷ en·15 ∷ en·12 ∷ en·7 ∷ en·18 ∷ es·3
+t20 = en·6 ∷ en·8 ∷ en·3 ∷ en·2 ∷ en·1 ∷ en·15 ∷ en·7 ∷ en·9 ∷ en·17 ∷ en·10 ∷ en·11 ∷ en·19 ∷ en·5 ∷ es·7
 
 abbrev t21 : List Entry
-t21 = en·6 ∷ en·13 ∷ en·3 ∷ en·2 ∷ en·15 ∷ en·12 ∷ en·7 ∷ en·18 ∷ en·8 ∷ en·14 ∷ en·1 ∷ en·21 ∷ en·5 ∷ es·5
+t21 = en·6 ∷ en·8 ∷ en·3 ∷ en·2 ∷ en·1 ∷ en·15 ∷ en·7 ∷ en·9 ∷ en·17 ∷ en·10 ∷ en·11 ∷ en·19 ∷ en·5 ∷ en·18 ∷ es·8
 
 abbrev t22 : List Entry
-t22 = en·6 ∷ en·13 ∷ en·3 ∷ en·2 ∷ en·15 ∷ en·12 ∷ en·7 ∷ en·18 ∷ en·8 ∷ en·14 ∷ en·1 ∷ en·21 ∷ en·5 ∷ en·20 ∷ es·9
+t22 = en·6 ∷ en·8 ∷ en·3 ∷ en·2 ∷ en·1 ∷ en·15 ∷ en·7 ∷ en·9 ∷ en·17 ∷ en·10 ∷ en·11 ∷ en·0 ∷ en·5 ∷ en·18 ∷ es·8
 
 abbrev t23 : List Entry
-t23 = en·6 ∷ en·13 ∷ en·3 ∷ en·2 ∷ en·15 ∷ en·12 ∷ en·7 ∷ en·18 ∷ en·8 ∷ en·14 ∷ en·1 ∷ en·0 ∷ en·5 ∷ en·20 ∷ es·9
+t23 = en·6 ∷ en·8 ∷ en·3 ∷ en·2 ∷ en·1 ∷ en·15 ∷ en·7 ∷ en·9 ∷ en·17 ∷ en·10 ∷ en·11 ∷ en·0 ∷ en·5 ∷ en·12 ∷ es·8
 
 abbrev t24 : List Entry
-t24 = en·6 ∷ en·13 ∷ en·3 ∷ en·2 ∷ en·15 ∷ en·12 ∷ en·7 ∷ en·18 ∷ en·8 ∷ en·14 ∷ en·1 ∷ en·0 ∷ en·5 ∷ en·10 ∷ es·9
+t24 = en·6 ∷ en·8 ∷ en·3 ∷ en·2 ∷ en·1 ∷ es·5
 
 abbrev t25 : List Entry
-t25 = en·23 ∷ en·13 ∷ en·3 ∷ en·2 ∷ en·15 ∷ en·12 ∷ es·6
+t25 = en·24 ∷ en·8 ∷ en·3 ∷ en·2 ∷ en·1 ∷ es·5
 
 abbrev t26 : List Entry
-t26 = en·23 ∷ en·13 ∷ en·3 ∷ en·2 ∷ en·15 ∷ en·9 ∷ es·6
+t26 = en·24 ∷ en·8 ∷ en·3 ∷ en·2 ∷ en·21 ∷ es·5
+
+abbrev t27 : List Entry
+t27 = en·24 ∷ en·8 ∷ en·3 ∷ en·2 ∷ en·21 ∷ en·15 ∷ en·13 ∷ en·9 ∷ es·9
 
 abbrev T0 : Cx
 T0 = cx t0 []
@@ -326,26 +338,26 @@ T0 = cx t0 []
 abbrev T1 : Cx
 T1 = cx t1 []
 
-abbrev T5 : Cx
-T5 = cx (en·6 ∷ en·17 ∷ en·3 ∷ en·2 ∷ en·15 ∷ en·9 ∷ en·7 ∷ en·11 ∷ (8, ssptr Elem.row ty·3 3) ∷ en·14 ∷ es·8) []
+abbrev T4 : Cx
+T4 = cx t2 []
 
 abbrev T6 : Cx
-T6 = cx (en·6 ∷ en·17 ∷ en·3 ∷ en·2 ∷ en·15 ∷ en·9 ∷ en·7 ∷ en·11 ∷ en·8 ∷ en·22 ∷ es·8) []
+T6 = cx (en·6 ∷ en·20 ∷ en·3 ∷ en·2 ∷ en·1 ∷ en·15 ∷ en·13 ∷ en·9 ∷ en·14 ∷ (9, ssptr Elem.row ty·3 3) ∷ en·11 ∷ en·0 ∷ es·6) []
 
 abbrev T7 : Cx
-T7 = cx (en·6 ∷ en·17 ∷ en·3 ∷ en·2 ∷ en·15 ∷ es·2) []
+T7 = cx (en·6 ∷ en·20 ∷ en·3 ∷ en·2 ∷ en·1 ∷ en·15 ∷ es·1) []
 
 abbrev T8 : Cx
-T8 = cx (en·6 ∷ en·17 ∷ en·3 ∷ en·2 ∷ en·16 ∷ es·2) []
+T8 = cx (en·6 ∷ en·20 ∷ en·3 ∷ en·2 ∷ en·1 ∷ en·16 ∷ es·1) []
 
 abbrev T9 : Cx
-T9 = cx (en·6 ∷ en·17 ∷ en·3 ∷ en·2 ∷ en·16 ∷ en·9 ∷ en·7 ∷ en·11 ∷ en·8 ∷ en·14 ∷ en·19 ∷ es·0) []
+T9 = cx (en·6 ∷ en·20 ∷ es·3) []
 
-abbrev T10 : Cx
-T10 = cx (en·6 ∷ en·17 ∷ es·4) []
+abbrev T11 : Cx
+T11 = cx t7 []
 
-abbrev T12 : Cx
-T12 = cx t8 []
+abbrev T13 : Cx
+T13 = cx t8 []
 
 abbrev T14 : Cx
 T14 = cx t9 []
@@ -386,8 +398,8 @@ T25 = cx t20 []
 abbrev T26 : Cx
 T26 = cx t21 []
 
-abbrev T27 : Cx
-T27 = cx t22 []
+abbrev T28 : Cx
+T28 = cx t22 []
 
 abbrev T29 : Cx
 T29 = cx t23 []
@@ -395,29 +407,35 @@ T29 = cx t23 []
 abbrev T30 : Cx
 T30 = cx t24 []
 
+abbrev T31 : Cx
+T31 = cx t25 []
+
 abbrev T32 : Cx
-T32 = cx t25 []
+T32 = cx t26 []
 
 abbrev T33 : Cx
-T33 = cx t26 []
+T33 = cx t27 []
 
 abbrev O0 : Outs
 O0 = record { next = none; exits = []; returns = some T1 }
 
-abbrev args·0 : ArgsT ps·0 (T6 .locals)
+abbrev args·0 : ArgsT ps·0 (T0 .locals)
 args·0 = (record { pos = 2; ty = tyRef (named 1) imm (tyInt w8); ref = λ x. x }, tt)
 
 abbrev args·1 : ArgsT ps·1 (T7 .locals)
-args·1 = (record { pos = 9; ty = tyRef erased imm Elem.pointed; ref = λ x. x }, (Num.vAt 10 λ x. x, tt))
+args·1 = (record { pos = 10; ty = tyRef erased imm Elem.pointed; ref = λ x. x }, (vAt 4 λ x. x, tt))
 
-abbrev args·2 : ArgsT ps·2 (T12 .locals)
-args·2 = (record { pos = 4; st = []; d = 0; at = λ x. x }, tt)
+abbrev args·2 : ArgsT ps·2 (T11 .locals)
+args·2 = (record { pos = 5; st = []; d = 0; at = λ x. x }, tt)
 
-abbrev args·3 : ArgsT ps·3 (T21 .locals)
-args·3 = (record { pos = 6; st = []; d = 0; at = λ x. x }, (record { pos = 4; st = []; d = 0; at = λ x. x }, (record { pos = 2; ty = tyRef (named 1) imm (tyInt w8); ref = λ x. x }, (record { pos = 3; ty = tyRef (named 2) imm (tyInt w8); ref = λ x. x }, tt))))
+abbrev args·3 : ArgsT ps·3 (T20 .locals)
+args·3 = (record { pos = 7; st = []; d = 0; at = λ x. x }, (record { pos = 5; st = []; d = 0; at = λ x. x }, (record { pos = 2; ty = tyRef (named 1) imm (tyInt w8); ref = λ x. x }, (record { pos = 3; ty = tyRef (named 2) imm (tyInt w8); ref = λ x. x }, tt))))
 
-abbrev args·4 : ArgsT ps·4 (T24 .locals)
-args·4 = (record { pos = 7; st = []; d = 0; at = λ x. x }, tt)
+abbrev args·4 : ArgsT ps·4 (T22 .locals)
+args·4 = (record { pos = 7; st = []; d = 0; at = λ x. x }, (vAt 4 λ x. x, (record { pos = 8; st = []; d = 0; at = λ x. x }, tt)))
+
+abbrev args·5 : ArgsT ps·5 (T30 .locals)
+args·5 = (record { pos = 8; st = []; d = 0; at = λ x. x }, tt)
 
 module _ (claims· : Claims) where
   abbrev s0 : Gives T0 T0
@@ -426,132 +444,129 @@ module _ (claims· : Claims) where
   abbrev s1 : Gives T0 T0
   s1 = Know.k-shs-known (fInt w8) T0 3 2 ty·4 off 0 λ x. x
 
-  abbrev s3 : Gives T0 T5
-  s3 = Reshare.k-sl-reshare Elem.row T0 1 8 0 3 ty·1 ty·3 off λ x. x
+  abbrev s2 : Both T0 T4
+  s2 = callB ps·0 r·0 (claims· .0) (claims· .1) T0 args·0 4 (1 ∷ []) (tyInt w32)
 
-  abbrev s4 : Asks T5 T6
-  s4 = k-sl-aggregate Elem.row (asShr Elem.row) T5 8 9 3 ty·3 ty·3 (λ x. x) (oFld 1 ((field 1) ∷ []) (tyInt w64) 8 λ v. lenV (v .0))
+  abbrev s4 : Gives T4 T6
+  s4 = Reshare.k-sl-reshare Elem.row T4 1 9 0 3 ty·1 ty·3 off λ x. x
 
-  abbrev s5 : Both T6 T7
-  s5 = callB ps·0 r·0 (claims· .0) (claims· .1) T6 args·0 10 (1 ∷ []) (tyInt w32)
+  abbrev s5 : Asks T6 T7
+  s5 = k-sl-aggregate Elem.row (asShr Elem.row) T6 9 10 3 ty·3 ty·3 (λ x. x) (oFld 1 ((field 1) ∷ []) (tyInt w64) 8 λ v. lenV (v .0))
 
   abbrev s6 : Both T7 T8
-  s6 = callB ps·1 r·1 (claims· .2) (claims· .3) T7 args·1 4 (3 ∷ []) Laws'.mir
+  s6 = callB ps·1 r·1 (claims· .2) (claims· .3) T7 args·1 5 (3 ∷ []) Laws''.mir
 
   abbrev s7 : Mo T8 → Mo T9
-  s7 = n-room T8 9 ty·0
+  s7 = n-room T8 10 ty·0
 
-  abbrev s8 : Mo T9 → Mo T10
-  s8 = n-room T9 10 (tyInt w32)
+  abbrev s9 : Mo T9 → Mo T11
+  s9 = Reshare.n-back-sl-shr Elem.row T9 1 0 3 ty·1 off λ x. x
 
-  abbrev s10 : Mo T10 → Mo T12
-  s10 = Reshare.n-back-sl-shr Elem.row T10 1 0 3 ty·1 off λ x. x
+  abbrev s11 : Both T11 T13
+  s11 = callB ps·2 r·2 (claims· .4) (claims· .5) T11 args·2 6 [] (tyInt w64)
 
-  abbrev s12 : Both T12 T14
-  s12 = callB ps·2 r·2 (claims· .4) (claims· .5) T12 args·2 5 [] (tyInt w64)
+  abbrev s12 : Asks T13 T14
+  s12 = k-op2 T13 (mul unsigned) (oAt 6 (tyInt w64) (valS (sInt w64))) (oInt w64 136) 11 (sc-here (sInt w64)) (sInt w64 .of)
 
   abbrev s13 : Asks T14 T15
-  s13 = k-op2 T14 (mul unsigned) (oAt 5 (tyInt w64) (valS (sInt w64))) (oInt w64 136) 11 (sc-here (sInt w64)) (sInt w64 .of)
+  s13 = k-op2 T14 offset (oFld 1 ((field 0) ∷ []) ty·1 0 ptrVal) (oAt 11 (tyInt w64) (valS (sInt w64))) 12 (sc-here sPtr) (sPtr .of)
 
-  abbrev s14 : Asks T15 T16
-  s14 = k-op2 T15 offset (oFld 1 ((field 0) ∷ []) ty·1 0 ptrVal) (oAt 11 (tyInt w64) (valS (sInt w64))) 12 (sc-here sPtr) (sPtr .of)
+  abbrev s14 : Both T15 T16
+  s14 = Move.k-sl-copy-out Elem.row T15 1 12 13 0 ty·1 off (whole Elem.row) (bySize 136) (λ u. u .1 .1 .1 .1 .1 .1 .0) (λ x. x) Elem.past (λ x. Unit) (λ x. x) λ x. x
 
-  abbrev s15 : Both T16 T17
-  s15 = Move.k-sl-copy-out Elem.row T16 1 12 13 0 ty·1 off (whole Elem.row) (bySize 136) (λ u. u .1 .1 .1 .1 .1 .0) (λ x. x) Elem.past (λ x. Unit) (λ x. x) λ x. x
+  abbrev s15 : Mo T16 → Mo T17
+  s15 = n-room T16 11 (tyInt w64)
 
   abbrev s16 : Mo T17 → Mo T18
-  s16 = n-room T17 11 (tyInt w64)
+  s16 = n-room T17 12 tyPtr
 
   abbrev s17 : Mo T18 → Mo T19
-  s17 = n-room T18 12 tyPtr
+  s17 = LocalCopy.n-val-copy T18 13 7 Elem.row (whole Elem.row) (whole Elem.row) (λ x. x) (λ x. x) λ x. x
 
   abbrev s18 : Mo T19 → Mo T20
-  s18 = LocalCopy.n-val-copy T19 13 6 Elem.row (whole Elem.row) (whole Elem.row) (λ x. x) (λ x. x) λ x. x
+  s18 = n-room T19 13 Elem.ty
 
-  abbrev s19 : Mo T20 → Mo T21
-  s19 = n-room T20 13 Elem.ty
+  abbrev s19 : Both T20 T21
+  s19 = callB ps·3 r·3 (claims· .6) (claims· .7) T20 args·3 8 (1 ∷ 2 ∷ []) Laws'.mir
 
-  abbrev s20 : Both T21 T22
-  s20 = callB ps·3 r·3 (claims· .6) (claims· .7) T21 args·3 7 (1 ∷ 2 ∷ []) Laws''.mir
+  abbrev s20 : Mo T21 → Mo T22
+  s20 = n-room T21 5 Laws''.mir
 
-  abbrev s21 : Mo T22 → Mo T23
-  s21 = n-room T22 4 Laws'.mir
+  abbrev s21 : Both T22 T23
+  s21 = callB ps·4 r·4 (claims· .8) (claims· .9) T22 args·4 13 [] Elem.ty
 
   abbrev s22 : Mo T23 → Mo T24
-  s22 = n-room T23 6 Elem.ty
+  s22 = n-room T23 7 Elem.ty
 
-  abbrev s23 : Both T24 T25
-  s23 = callB ps·4 r·4 (claims· .8) (claims· .9) T24 args·4 13 [] Elem.ty
+  abbrev s23 : Asks T24 T25
+  s23 = k-op2 T24 (mul unsigned) (oAt 6 (tyInt w64) (valS (sInt w64))) (oInt w64 136) 11 (sc-here (sInt w64)) (sInt w64 .of)
 
   abbrev s24 : Asks T25 T26
-  s24 = k-op2 T25 (mul unsigned) (oAt 5 (tyInt w64) (valS (sInt w64))) (oInt w64 136) 11 (sc-here (sInt w64)) (sInt w64 .of)
+  s24 = k-op2 T25 offset (oFld 1 ((field 0) ∷ []) ty·1 0 ptrVal) (oAt 11 (tyInt w64) (valS (sInt w64))) 14 (sc-here sPtr) (sPtr .of)
 
-  abbrev s25 : Asks T26 T27
-  s25 = k-op2 T26 offset (oFld 1 ((field 0) ∷ []) ty·1 0 ptrVal) (oAt 11 (tyInt w64) (valS (sInt w64))) 14 (sc-here sPtr) (sPtr .of)
+  abbrev s25 : Asks T26 T26
+  s25 = Move.k-sl-set-from Elem.row T26 1 14 13 0 ty·1 off (whole Elem.row) (bySize 136) (λ u. u .1 .1 .1 .1 .1 .1 .0) (λ x. x) (λ x. x) (λ x. x) λ x. x
 
-  abbrev s26 : Asks T27 T27
-  s26 = Move.k-sl-set-from Elem.row T27 1 14 13 0 ty·1 off (whole Elem.row) (bySize 136) (λ u. u .1 .1 .1 .1 .1 .0) (λ x. x) (λ x. x) (λ x. x) λ x. x
+  abbrev s26 : Mo T26 → Mo T28
+  s26 = n-room T26 11 (tyInt w64)
 
-  abbrev s27 : Mo T27 → Mo T29
-  s27 = n-room T27 11 (tyInt w64)
+  abbrev s27 : Mo T28 → Mo T29
+  s27 = n-room T28 13 Elem.ty
 
   abbrev s28 : Mo T29 → Mo T30
-  s28 = n-room T29 13 Elem.ty
+  s28 = n-room T29 14 tyPtr
 
-  abbrev s29 : Mo T30 → Mo T24
-  s29 = n-room T30 14 tyPtr
+  abbrev s29 : Both T30 T31
+  s29 = callB ps·5 r·5 (claims· .10) (claims· .11) T30 args·5 0 [] Laws.mir
 
-  abbrev s30 : Both T24 T32
-  s30 = callB ps·4 r·5 (claims· .10) (claims· .11) T24 args·4 0 [] Laws.mir
+  abbrev s30 : Mo T31 → Mo T32
+  s30 = n-room T31 4 (tyInt w32)
 
   abbrev s31 : Mo T32 → Mo T33
-  s31 = n-room T32 5 (tyInt w64)
+  s31 = n-room T32 6 (tyInt w64)
 
   abbrev s32 : Mo T33 → Mo T1
-  s32 = n-room T33 7 Laws''.mir
+  s32 = n-room T33 8 Laws'.mir
 
   module _ (Pre· : (κs : Lfts 3) → Dens κs ps → Type 0) (Post· : (κs : Lfts 3) → (a : Dens κs ps) → Kinds.Plain 3 ps r κs) where
     module _ (M : Type 1) where
       abbrev pub Closed : Type 2
-      Closed = (𝓤 : URA M) (H : Wp.Heap 𝓤) (A : Atoms 𝓤) (W : Given 𝓤 H A) (𝓣 : Wp.Tables 𝓤 H) (known0 : Known 𝓤 H A W 𝓣 1 ps·0 r·0 (claims· .0) (claims· .1) "forms::item::call_in") (known1 : Known 𝓤 H A W 𝓣 1 ps·1 r·1 (claims· .2) (claims· .3) "table::lookup::locate") (known2 : Known 𝓤 H A W 𝓣 0 ps·2 r·2 (claims· .4) (claims· .5) "table::lookup::place_of") (known3 : Known 𝓤 H A W 𝓣 2 ps·3 r·3 (claims· .6) (claims· .7) "table::serve::act") (known4 : Known 𝓤 H A W 𝓣 0 ps·4 r·4 (claims· .8) (claims· .9) "table::serve::entry_of") (known5 : Known 𝓤 H A W 𝓣 0 ps·4 r·5 (claims· .10) (claims· .11) "table::serve::answer_of") → Triple 𝓤 (Wp.WpFn 𝓤 H (𝓣 .C) (𝓣 .Λ) (fnOf 3 ps r xs m hs body)) (plainOf 𝓤 H A 3 ps r Pre· Post·)
+      Closed = (𝓤 : URA M) (H : Wp.Heap 𝓤) (A : Atoms 𝓤) (W : Given 𝓤 H A) (𝓣 : Wp.Tables 𝓤 H) (known0 : Known 𝓤 H A W 𝓣 1 ps·0 r·0 (claims· .0) (claims· .1) "forms::item::call_in") (known1 : Known 𝓤 H A W 𝓣 1 ps·1 r·1 (claims· .2) (claims· .3) "table::lookup::locate") (known2 : Known 𝓤 H A W 𝓣 0 ps·2 r·2 (claims· .4) (claims· .5) "table::lookup::place_of") (known3 : Known 𝓤 H A W 𝓣 2 ps·3 r·3 (claims· .6) (claims· .7) "table::serve::act") (known4 : Known 𝓤 H A W 𝓣 0 ps·4 r·4 (claims· .8) (claims· .9) "table::serve::entry_after") (known5 : Known 𝓤 H A W 𝓣 0 ps·5 r·5 (claims· .10) (claims· .11) "table::serve::answer_of") → Triple 𝓤 (Wp.WpFn 𝓤 H (𝓣 .C) (𝓣 .Λ) (fnOf 3 ps r xs m hs body)) (plainOf 𝓤 H A 3 ps r Pre· Post·)
 
     module _ where
-      abbrev at2 : TF T32 O0
-      at2 = λ Ψ. pass T32 T33 s31 (pass T33 T1 s32 ((atRet O0) Ψ))
+      abbrev at3 : TF T31 O0
+      at3 = λ Ψ. pass T31 T32 s30 (pass T32 T33 s31 (pass T33 T1 s32 ((atRet O0) Ψ)))
 
-      abbrev at9 : TF T25 O0
-      at9 = λ Ψ. ask s24 (ask s25 (ask s26 (pass T27 T29 s27 (pass T29 T30 s28 (pass T30 T24 s29 (both s30 (at2 Ψ)))))))
+      abbrev at11 : TF T23 O0
+      at11 = λ Ψ. pass T23 T24 s22 (ask s23 (ask s24 (ask s25 (pass T26 T28 s26 (pass T28 T29 s27 (pass T29 T30 s28 (both s29 (at3 Ψ))))))))
 
-      abbrev at10 : TF T24 O0
-      at10 = λ Ψ. both s23 (at9 Ψ)
-
-      abbrev at12 : TF T22 O0
-      at12 = λ Ψ. pass T22 T23 s21 (pass T23 T24 s22 (at10 Ψ))
+      abbrev at13 : TF T21 O0
+      at13 = λ Ψ. pass T21 T22 s20 (both s21 (at11 Ψ))
 
       abbrev at18 : TF T16 O0
-      at18 = λ Ψ. both s15 (pass T17 T18 s16 (pass T18 T19 s17 (pass T19 T20 s18 (pass T20 T21 s19 (both s20 (at12 Ψ))))))
+      at18 = λ Ψ. pass T16 T17 s15 (pass T17 T18 s16 (pass T18 T19 s17 (pass T19 T20 s18 (both s19 (at13 Ψ)))))
 
-      abbrev at20 : TF T14 O0
-      at20 = λ Ψ. ask s13 (ask s14 (at18 Ψ))
+      abbrev at21 : TF T13 O0
+      at21 = λ Ψ. ask s12 (ask s13 (both s14 (at18 Ψ)))
 
       abbrev at26 : TF T8 O0
-      at26 = λ Ψ. pass T8 T9 s7 (pass T9 T10 s8 (pass T10 T12 s10 (both s12 (at20 Ψ))))
+      at26 = λ Ψ. pass T8 T9 s7 (pass T9 T11 s9 (both s11 (at21 Ψ)))
 
       abbrev at27 : TF T7 O0
       at27 = λ Ψ. both s6 (at26 Ψ)
 
-      abbrev at28 : TF T6 O0
-      at28 = λ Ψ. both s5 (at27 Ψ)
+      abbrev at30 : TF T4 O0
+      at30 = λ Ψ. give s4 (ask s5 (at27 Ψ))
 
       abbrev at33 : TF T0 O0
-      at33 = λ Ψ. give s0 (give s1 (give s3 (ask s4 (at28 Ψ))))
+      at33 = λ Ψ. give s0 (give s1 (both s2 (at30 Ψ)))
 
       abbrev Φ : TF T0 O0
       Φ = at33
 
       module _ {M : Type 1} (𝓤 : URA M) (H : Wp.Heap 𝓤) (A : Atoms 𝓤) (W : Given 𝓤 H A) (𝓣 : Wp.Tables 𝓤 H) where
         abbrev Knowns : Type 1
-        Knowns = Known 𝓤 H A W 𝓣 1 ps·0 r·0 (claims· .0) (claims· .1) "forms::item::call_in" × Known 𝓤 H A W 𝓣 1 ps·1 r·1 (claims· .2) (claims· .3) "table::lookup::locate" × Known 𝓤 H A W 𝓣 0 ps·2 r·2 (claims· .4) (claims· .5) "table::lookup::place_of" × Known 𝓤 H A W 𝓣 2 ps·3 r·3 (claims· .6) (claims· .7) "table::serve::act" × Known 𝓤 H A W 𝓣 0 ps·4 r·4 (claims· .8) (claims· .9) "table::serve::entry_of" × Known 𝓤 H A W 𝓣 0 ps·4 r·5 (claims· .10) (claims· .11) "table::serve::answer_of"
+        Knowns = Known 𝓤 H A W 𝓣 1 ps·0 r·0 (claims· .0) (claims· .1) "forms::item::call_in" × Known 𝓤 H A W 𝓣 1 ps·1 r·1 (claims· .2) (claims· .3) "table::lookup::locate" × Known 𝓤 H A W 𝓣 0 ps·2 r·2 (claims· .4) (claims· .5) "table::lookup::place_of" × Known 𝓤 H A W 𝓣 2 ps·3 r·3 (claims· .6) (claims· .7) "table::serve::act" × Known 𝓤 H A W 𝓣 0 ps·4 r·4 (claims· .8) (claims· .9) "table::serve::entry_after" × Known 𝓤 H A W 𝓣 0 ps·5 r·5 (claims· .10) (claims· .11) "table::serve::answer_of"
 
       module _ (κs : Lfts 3) (qs : Shares 3) where
         abbrev ℓ·0 : Life
@@ -569,29 +584,29 @@ module _ (claims· : Claims) where
         abbrev ls·1 : List Life
         ls·1 = ℓ·0 ∷ ℓ·1 ∷ ℓ·2 ∷ off ∷ []
 
-        abbrev g7 : List Entry
-        g7 = en·6 ∷ (1, mslice-owedS Elem.row ty·1 0 3 ℓ·0) ∷ es·4
+        abbrev g6 : List Entry
+        g6 = en·6 ∷ (1, mslice-owedS Elem.row ty·1 0 3 ℓ·0) ∷ es·3
 
         abbrev G0 : Cx
         G0 = cx t0 ls·1
 
-        abbrev G6 : Cx
-        G6 = cx (en·6 ∷ (1, mslice-owedS Elem.row ty·1 0 3 ℓ·0) ∷ en·3 ∷ en·2 ∷ en·15 ∷ en·9 ∷ en·7 ∷ en·11 ∷ en·8 ∷ en·22 ∷ es·8) ls·0
-
         abbrev G7 : Cx
-        G7 = cx (en·6 ∷ (1, mslice-owedS Elem.row ty·1 0 3 ℓ·0) ∷ en·3 ∷ en·2 ∷ en·15 ∷ es·2) ls·0
+        G7 = cx (en·6 ∷ (1, mslice-owedS Elem.row ty·1 0 3 ℓ·0) ∷ en·3 ∷ en·2 ∷ en·1 ∷ en·15 ∷ es·1) ls·0
 
         abbrev G8 : Cx
-        G8 = cx (en·6 ∷ (1, mslice-owedS Elem.row ty·1 0 3 ℓ·0) ∷ en·3 ∷ en·2 ∷ en·16 ∷ es·2) ls·0
+        G8 = cx (en·6 ∷ (1, mslice-owedS Elem.row ty·1 0 3 ℓ·0) ∷ en·3 ∷ en·2 ∷ en·1 ∷ en·16 ∷ es·1) ls·0
 
         abbrev G9 : Cx
-        G9 = cx (en·6 ∷ (1, mslice-owedS Elem.row ty·1 0 3 ℓ·0) ∷ en·3 ∷ en·2 ∷ en·16 ∷ en·9 ∷ en·7 ∷ en·11 ∷ en·8 ∷ en·14 ∷ en·19 ∷ es·0) ls·0
+        G9 = cx g6 ls·0
+
+        abbrev G10 : Cx
+        G10 = cx g6 (off ∷ ℓ·1 ∷ ℓ·2 ∷ dead ∷ [])
 
         abbrev G11 : Cx
-        G11 = cx g7 (off ∷ ℓ·1 ∷ ℓ·2 ∷ dead ∷ [])
+        G11 = cx t7 (ℓ·0 ∷ ℓ·1 ∷ ℓ·2 ∷ dead ∷ [])
 
         abbrev G12 : Cx
-        G12 = cx t8 (ℓ·0 ∷ ℓ·1 ∷ ℓ·2 ∷ dead ∷ [])
+        G12 = cx t7 ls·1
 
         abbrev G13 : Cx
         G13 = cx t8 ls·1
@@ -605,26 +620,23 @@ module _ (claims· : Claims) where
         abbrev G16 : Cx
         G16 = cx t11 ls·1
 
-        abbrev G19 : Cx
-        G19 = cx t14 ls·1
+        abbrev G18 : Cx
+        G18 = cx t13 ls·1
 
-        abbrev G21 : Cx
-        G21 = cx t16 ls·1
+        abbrev G20 : Cx
+        G20 = cx t15 ls·1
 
-        abbrev G24 : Cx
-        G24 = cx t19 ls·1
+        abbrev G22 : Cx
+        G22 = cx t17 ls·1
 
-        abbrev G27 : Cx
-        G27 = cx t22 ls·1
+        abbrev G23 : Cx
+        G23 = cx t18 ls·1
+
+        abbrev G26 : Cx
+        G26 = cx t21 ls·1
 
         abbrev G30 : Cx
         G30 = cx t24 ls·1
-
-        abbrev G32 : Cx
-        G32 = cx t25 ls·1
-
-        abbrev G33 : Cx
-        G33 = cx t26 ls·1
 
         abbrev Δ0 : Outs
         Δ0 = record { next = none; exits = []; returns = some (cx t1 ls·1) }
@@ -636,17 +648,17 @@ module _ (claims· : Claims) where
           abbrev Does : (Γ : Cx) → Body → (Δ : Outs) → TF Γ Δ → Type 2
           Does = Typed 𝓤 H A 𝓣 E
 
-          d10 : Does G24 b20 Δ0 at10
-          d10 = then W (t-call-plain 𝓤 H A W 𝓣 0 ps·4 r·4 (claims· .8) (claims· .9) "table::serve::entry_of" (known .4) E (λ pos β. β) G24 (record { pos = 7; st = []; d = 0; at = λ x. x }, tt) 13 [] (sub-id 𝓤 H A W (G24 .slots)) ((yields W Acted·row refl (cStruct Acted.the-type Laws''.the-laws Laws''.the-copy), refl), tt) (room-gone 𝓤 H A Elem.ty) tt refl) (then W (t-op2 𝓤 H A W E 𝓣 (cx t20 ls·1) (mul unsigned) (oAt 5 (tyInt w64) (valS (sInt w64))) (oInt w64 136) 11 (sc-here (sInt w64)) (tyInt w64) (valS (sInt w64)) (sInt w64 .of) (reads-sc 𝓤 H A W (sInt w64), refl) tt (room-gone 𝓤 H A (tyInt w64)) (holds-sc 𝓤 H A W (sInt w64)) refl (λ u. refl) λ u. tt) (then W (t-op2 𝓤 H A W E 𝓣 (cx t21 ls·1) offset (oFld 1 ((field 0) ∷ []) ty·1 0 ptrVal) (oAt 11 (tyInt w64) (valS (sInt w64))) 14 (sc-here sPtr) tyPtr (valS sPtr) (sPtr .of) (reads-mslice-ptr 𝓤 H A W Elem.row ty·1 0 0 refl, refl) (reads-sc 𝓤 H A W (sInt w64), refl) (room-gone 𝓤 H A tyPtr) (holds-sc 𝓤 H A W sPtr) refl (λ u. refl) λ u. tt) (then W (Move.t-sl-set-from 𝓤 H A W E Elem.row 𝓣 refl (λ ρ. Unit) G27 1 14 13 0 ty·1 ℓ·0 Elem.ty Elem.ty (whole Elem.row) (bySize 136) (λ u. u .1 .1 .1 .1 .1 .0) (λ x. x) (λ x. x) (λ x. x) (λ x. x) (λ i o. at-mul o 136 i) refl refl (Own.told-none 𝓤 H A (G27 .slots)) (as-is 𝓤 H A (mslice Elem.row ty·1 0)) (as-is 𝓤 H A (sc-here sPtr)) (yields W Elem.row refl Elem.copies) refl tt refl refl) (Joins.pre W (g-room 𝓤 H A W E G27 11 (tyInt w64) (room-sc 𝓤 H A W (sInt w64))) (Joins.pre W (g-room 𝓤 H A W E (cx t23 ls·1) 13 Elem.ty (room-whole 𝓤 H A W Elem.row Elem.ty refl)) (Joins.pre W (g-room 𝓤 H A W E G30 14 tyPtr (room-sc 𝓤 H A W sPtr)) (then W (t-call-plain 𝓤 H A W 𝓣 0 ps·4 r·5 (claims· .10) (claims· .11) "table::serve::answer_of" (known .5) E (λ pos β. β) G24 (record { pos = 7; st = []; d = 0; at = λ x. x }, tt) 0 [] (sub-id 𝓤 H A W (G24 .slots)) ((yields W Acted·row refl (cStruct Acted.the-type Laws''.the-laws Laws''.the-copy), refl), tt) (room-gone 𝓤 H A Laws.mir) tt refl) (Joins.pre W (g-room 𝓤 H A W E G32 5 (tyInt w64) (room-sc 𝓤 H A W (sInt w64))) (Joins.pre W (g-room 𝓤 H A W E G33 7 Laws''.mir (room-whole 𝓤 H A W Acted·row Laws''.mir refl)) (t-return 𝓤 H A W 𝓣 E Δ0 tt))))))))))
+          d11 : Does G23 b19 Δ0 at11
+          d11 = Joins.pre W (g-room 𝓤 H A W E G23 7 Elem.ty (room-whole 𝓤 H A W Elem.row Elem.ty refl)) (then W (t-op2 𝓤 H A W E 𝓣 (cx t19 ls·1) (mul unsigned) (oAt 6 (tyInt w64) (valS (sInt w64))) (oInt w64 136) 11 (sc-here (sInt w64)) (tyInt w64) (valS (sInt w64)) (sInt w64 .of) (reads-sc 𝓤 H A W (sInt w64), refl) tt (room-gone 𝓤 H A (tyInt w64)) (holds-sc 𝓤 H A W (sInt w64)) refl (λ u. refl) λ u. tt) (then W (t-op2 𝓤 H A W E 𝓣 (cx t20 ls·1) offset (oFld 1 ((field 0) ∷ []) ty·1 0 ptrVal) (oAt 11 (tyInt w64) (valS (sInt w64))) 14 (sc-here sPtr) tyPtr (valS sPtr) (sPtr .of) (reads-mslice-ptr 𝓤 H A W Elem.row ty·1 0 0 refl, refl) (reads-sc 𝓤 H A W (sInt w64), refl) (room-gone 𝓤 H A tyPtr) (holds-sc 𝓤 H A W sPtr) refl (λ u. refl) λ u. tt) (then W (Move.t-sl-set-from 𝓤 H A W E Elem.row 𝓣 refl (λ ρ. Unit) G26 1 14 13 0 ty·1 ℓ·0 Elem.ty Elem.ty (whole Elem.row) (bySize 136) (λ u. u .1 .1 .1 .1 .1 .1 .0) (λ x. x) (λ x. x) (λ x. x) (λ x. x) (λ i o. at-mul o 136 i) refl refl (Own.told-none 𝓤 H A (G26 .slots)) (as-is 𝓤 H A (mslice Elem.row ty·1 0)) (as-is 𝓤 H A (sc-here sPtr)) (yields W Elem.row refl Elem.copies) refl tt refl refl) (Joins.pre W (g-room 𝓤 H A W E G26 11 (tyInt w64) (room-sc 𝓤 H A W (sInt w64))) (Joins.pre W (g-room 𝓤 H A W E (cx t22 ls·1) 13 Elem.ty (room-whole 𝓤 H A W Elem.row Elem.ty refl)) (Joins.pre W (g-room 𝓤 H A W E (cx t23 ls·1) 14 tyPtr (room-sc 𝓤 H A W sPtr)) (then W (t-call-plain 𝓤 H A W 𝓣 0 ps·5 r·5 (claims· .10) (claims· .11) "table::serve::answer_of" (known .5) E (λ pos β. β) G30 (record { pos = 8; st = []; d = 0; at = λ x. x }, tt) 0 [] (sub-id 𝓤 H A W (G30 .slots)) ((yields W Stepped·row refl (cStruct Stepped.the-type Laws'.the-laws Laws'.the-copy), refl), tt) (room-gone 𝓤 H A Laws.mir) tt refl) (Joins.pre W (g-room 𝓤 H A W E (cx t25 ls·1) 4 (tyInt w32) (room-sc 𝓤 H A W (sInt w32))) (Joins.pre W (g-room 𝓤 H A W E (cx t26 ls·1) 6 (tyInt w64) (room-sc 𝓤 H A W (sInt w64))) (Joins.pre W (g-room 𝓤 H A W E (cx t27 ls·1) 8 Laws'.mir (room-whole 𝓤 H A W Stepped·row Laws'.mir refl)) (t-return 𝓤 H A W 𝓣 E Δ0 tt)))))))))))
 
-          d18 : Does G16 b23 Δ0 at18
-          d18 = then W (Move.t-sl-copy-out 𝓤 H A W E Elem.row 𝓣 refl (Elem.copies .copy 𝓤 H A W) (λ ρ. Unit) G16 1 12 13 0 ty·1 ℓ·0 Elem.ty Elem.ty (whole Elem.row) (bySize 136) (λ u. u .1 .1 .1 .1 .1 .0) (λ x. x) Elem.past (λ x. Unit) (λ x. x) (λ x. x) (λ i o. at-mul o 136 i) refl refl (Own.told-none 𝓤 H A (G16 .slots)) (DerefMove.learns-nothing 𝓤 H A Elem.row) (as-is 𝓤 H A (mslice Elem.row ty·1 0)) (as-is 𝓤 H A (sc-here sPtr)) (room-gone 𝓤 H A Elem.ty) (Joins.makes W Elem.row refl) refl tt refl refl) (Joins.pre W (g-room 𝓤 H A W E (cx t12 ls·1) 11 (tyInt w64) (room-sc 𝓤 H A W (sInt w64))) (Joins.pre W (g-room 𝓤 H A W E (cx t13 ls·1) 12 tyPtr (room-sc 𝓤 H A W sPtr)) (then W (LocalCopy.t-val-copy 𝓤 H A W E 𝓣 (λ ρ. Unit) G19 13 6 Elem.row Elem.ty Elem.ty (whole Elem.row) (whole Elem.row) (λ x. x) (λ x. x) (λ x. x) refl (Own.told-none 𝓤 H A (G19 .slots)) (yields W Elem.row refl Elem.copies) (room-gone 𝓤 H A Elem.ty) (Joins.makes W Elem.row refl) refl refl) (Joins.pre W (g-room 𝓤 H A W E (cx t15 ls·1) 13 Elem.ty (room-whole 𝓤 H A W Elem.row Elem.ty refl)) (then W (t-call-plain 𝓤 H A W 𝓣 2 ps·3 r·3 (claims· .6) (claims· .7) "table::serve::act" (known .3) E (λ pos β. β) G21 (record { pos = 6; st = []; d = 0; at = λ x. x }, (record { pos = 4; st = []; d = 0; at = λ x. x }, (record { pos = 2; ty = tyRef (named 1) imm (tyInt w8); ref = λ x. x }, (record { pos = 3; ty = tyRef (named 2) imm (tyInt w8); ref = λ x. x }, tt)))) 7 (1 ∷ 2 ∷ []) (sub-id 𝓤 H A W (G21 .slots)) ((yields W Elem.row refl Elem.copies, refl), ((yields W Spot·row refl (cEnum Spot.the-type Laws'.the-laws Laws'.the-copy), refl), (spares-sslice 𝓤 H A W u8 ty·2 1, reads-sslice 𝓤 H A W u8 ty·2 1, refl, (spares-sslice 𝓤 H A W u8 ty·4 2, reads-sslice 𝓤 H A W u8 ty·4 2, refl, tt)))) (room-gone 𝓤 H A Laws''.mir) (tt, (tt, tt)) refl) (Joins.pre W (g-room 𝓤 H A W E (cx t17 ls·1) 4 Laws'.mir (room-whole 𝓤 H A W Spot·row Laws'.mir refl)) (Joins.pre W (g-room 𝓤 H A W E (cx t18 ls·1) 6 Elem.ty (room-whole 𝓤 H A W Elem.row Elem.ty refl)) d10)))))))
+          d18 : Does G16 b22 Δ0 at18
+          d18 = Joins.pre W (g-room 𝓤 H A W E G16 11 (tyInt w64) (room-sc 𝓤 H A W (sInt w64))) (Joins.pre W (g-room 𝓤 H A W E (cx t12 ls·1) 12 tyPtr (room-sc 𝓤 H A W sPtr)) (then W (LocalCopy.t-val-copy 𝓤 H A W E 𝓣 (λ ρ. Unit) G18 13 7 Elem.row Elem.ty Elem.ty (whole Elem.row) (whole Elem.row) (λ x. x) (λ x. x) (λ x. x) refl (Own.told-none 𝓤 H A (G18 .slots)) (yields W Elem.row refl Elem.copies) (room-gone 𝓤 H A Elem.ty) (Joins.makes W Elem.row refl) refl refl) (Joins.pre W (g-room 𝓤 H A W E (cx t14 ls·1) 13 Elem.ty (room-whole 𝓤 H A W Elem.row Elem.ty refl)) (then W (t-call-plain 𝓤 H A W 𝓣 2 ps·3 r·3 (claims· .6) (claims· .7) "table::serve::act" (known .3) E (λ pos β. β) G20 (record { pos = 7; st = []; d = 0; at = λ x. x }, (record { pos = 5; st = []; d = 0; at = λ x. x }, (record { pos = 2; ty = tyRef (named 1) imm (tyInt w8); ref = λ x. x }, (record { pos = 3; ty = tyRef (named 2) imm (tyInt w8); ref = λ x. x }, tt)))) 8 (1 ∷ 2 ∷ []) (sub-id 𝓤 H A W (G20 .slots)) ((yields W Elem.row refl Elem.copies, refl), ((yields W Spot·row refl (cEnum Spot.the-type Laws''.the-laws Laws''.the-copy), refl), (spares-sslice 𝓤 H A W u8 ty·2 1, reads-sslice 𝓤 H A W u8 ty·2 1, refl, (spares-sslice 𝓤 H A W u8 ty·4 2, reads-sslice 𝓤 H A W u8 ty·4 2, refl, tt)))) (room-gone 𝓤 H A Laws'.mir) (tt, (tt, tt)) refl) (Joins.pre W (g-room 𝓤 H A W E (cx t16 ls·1) 5 Laws''.mir (room-whole 𝓤 H A W Spot·row Laws''.mir refl)) (then W (t-call-plain 𝓤 H A W 𝓣 0 ps·4 r·4 (claims· .8) (claims· .9) "table::serve::entry_after" (known .4) E (λ pos β. β) G22 (record { pos = 7; st = []; d = 0; at = λ x. x }, (vAt 4 λ x. x, (record { pos = 8; st = []; d = 0; at = λ x. x }, tt))) 13 [] (sub-id 𝓤 H A W (G22 .slots)) ((yields W Elem.row refl Elem.copies, refl), ((reads-sc 𝓤 H A W (sInt w32), refl), ((yields W Stepped·row refl (cStruct Stepped.the-type Laws'.the-laws Laws'.the-copy), refl), tt))) (room-gone 𝓤 H A Elem.ty) tt refl) d11))))))
 
-          d28 : Does G6 b28 Δ0 at28
-          d28 = then W (t-call-plain 𝓤 H A W 𝓣 1 ps·0 r·0 (claims· .0) (claims· .1) "forms::item::call_in" (known .0) E (λ pos β. β) G6 (record { pos = 2; ty = tyRef (named 1) imm (tyInt w8); ref = λ x. x }, tt) 10 (1 ∷ []) (sub-id 𝓤 H A W (G6 .slots)) (spares-sslice 𝓤 H A W u8 ty·2 1, reads-sslice 𝓤 H A W u8 ty·2 1, refl, tt) (room-gone 𝓤 H A (tyInt w32)) (tt, tt) refl) (then W (t-call-plain 𝓤 H A W 𝓣 1 ps·1 r·1 (claims· .2) (claims· .3) "table::lookup::locate" (known .1) E (λ pos β. β) G7 (record { pos = 9; ty = tyRef erased imm Elem.pointed; ref = λ x. x }, (Num.vAt 10 λ x. x, tt)) 4 (3 ∷ []) (sub-id 𝓤 H A W (G7 .slots)) (spares-sslice 𝓤 H A W Elem.row ty·3 3, reads-sslice 𝓤 H A W Elem.row ty·3 3, refl, ((reads-sc 𝓤 H A W (sInt w32), refl), tt)) (room-gone 𝓤 H A Laws'.mir) (tt, tt) refl) (Joins.pre W (g-room 𝓤 H A W E G8 9 ty·0 (room-sslice 𝓤 H A W Elem.row ty·3 3)) (Joins.pre W (g-room 𝓤 H A W E G9 10 (tyInt w32) (room-sc 𝓤 H A W (sInt w32))) (Joins.pre W (Lifetime.g-end 𝓤 H A W E (cx g7 ls·0) 3 refl) (Joins.pre W (Reshare.g-back-sl-shr 𝓤 H A W E Elem.row G11 1 0 3 ty·1 ℓ·0 (λ x. x) (as-is 𝓤 H A (mslice-owedS Elem.row ty·1 0 3 ℓ·0)) refl refl) (Joins.pre W (Lifetime.g-forget 𝓤 H A W E G12 3 dead refl) (then W (t-call-plain 𝓤 H A W 𝓣 0 ps·2 r·2 (claims· .4) (claims· .5) "table::lookup::place_of" (known .2) E (λ pos β. β) G13 (record { pos = 4; st = []; d = 0; at = λ x. x }, tt) 5 [] (sub-id 𝓤 H A W (G13 .slots)) ((yields W Spot·row refl (cEnum Spot.the-type Laws'.the-laws Laws'.the-copy), refl), tt) (room-gone 𝓤 H A (tyInt w64)) tt refl) (then W (t-op2 𝓤 H A W E 𝓣 G14 (mul unsigned) (oAt 5 (tyInt w64) (valS (sInt w64))) (oInt w64 136) 11 (sc-here (sInt w64)) (tyInt w64) (valS (sInt w64)) (sInt w64 .of) (reads-sc 𝓤 H A W (sInt w64), refl) tt (room-gone 𝓤 H A (tyInt w64)) (holds-sc 𝓤 H A W (sInt w64)) refl (λ u. refl) λ u. tt) (then W (t-op2 𝓤 H A W E 𝓣 G15 offset (oFld 1 ((field 0) ∷ []) ty·1 0 ptrVal) (oAt 11 (tyInt w64) (valS (sInt w64))) 12 (sc-here sPtr) tyPtr (valS sPtr) (sPtr .of) (reads-mslice-ptr 𝓤 H A W Elem.row ty·1 0 0 refl, refl) (reads-sc 𝓤 H A W (sInt w64), refl) (room-gone 𝓤 H A tyPtr) (holds-sc 𝓤 H A W sPtr) refl (λ u. refl) λ u. tt) d18)))))))))
+          d27 : Does G7 b27 Δ0 at27
+          d27 = then W (t-call-plain 𝓤 H A W 𝓣 1 ps·1 r·1 (claims· .2) (claims· .3) "table::lookup::locate" (known .1) E (λ pos β. β) G7 (record { pos = 10; ty = tyRef erased imm Elem.pointed; ref = λ x. x }, (vAt 4 λ x. x, tt)) 5 (3 ∷ []) (sub-id 𝓤 H A W (G7 .slots)) (spares-sslice 𝓤 H A W Elem.row ty·3 3, reads-sslice 𝓤 H A W Elem.row ty·3 3, refl, ((reads-sc 𝓤 H A W (sInt w32), refl), tt)) (room-gone 𝓤 H A Laws''.mir) (tt, tt) refl) (Joins.pre W (g-room 𝓤 H A W E G8 10 ty·0 (room-sslice 𝓤 H A W Elem.row ty·3 3)) (Joins.pre W (Lifetime.g-end 𝓤 H A W E G9 3 refl) (Joins.pre W (Reshare.g-back-sl-shr 𝓤 H A W E Elem.row G10 1 0 3 ty·1 ℓ·0 (λ x. x) (as-is 𝓤 H A (mslice-owedS Elem.row ty·1 0 3 ℓ·0)) refl refl) (Joins.pre W (Lifetime.g-forget 𝓤 H A W E G11 3 dead refl) (then W (t-call-plain 𝓤 H A W 𝓣 0 ps·2 r·2 (claims· .4) (claims· .5) "table::lookup::place_of" (known .2) E (λ pos β. β) G12 (record { pos = 5; st = []; d = 0; at = λ x. x }, tt) 6 [] (sub-id 𝓤 H A W (G12 .slots)) ((yields W Spot·row refl (cEnum Spot.the-type Laws''.the-laws Laws''.the-copy), refl), tt) (room-gone 𝓤 H A (tyInt w64)) tt refl) (then W (t-op2 𝓤 H A W E 𝓣 G13 (mul unsigned) (oAt 6 (tyInt w64) (valS (sInt w64))) (oInt w64 136) 11 (sc-here (sInt w64)) (tyInt w64) (valS (sInt w64)) (sInt w64 .of) (reads-sc 𝓤 H A W (sInt w64), refl) tt (room-gone 𝓤 H A (tyInt w64)) (holds-sc 𝓤 H A W (sInt w64)) refl (λ u. refl) λ u. tt) (then W (t-op2 𝓤 H A W E 𝓣 G14 offset (oFld 1 ((field 0) ∷ []) ty·1 0 ptrVal) (oAt 11 (tyInt w64) (valS (sInt w64))) 12 (sc-here sPtr) tyPtr (valS sPtr) (sPtr .of) (reads-mslice-ptr 𝓤 H A W Elem.row ty·1 0 0 refl, refl) (reads-sc 𝓤 H A W (sInt w64), refl) (room-gone 𝓤 H A tyPtr) (holds-sc 𝓤 H A W sPtr) refl (λ u. refl) λ u. tt) (then W (Move.t-sl-copy-out 𝓤 H A W E Elem.row 𝓣 refl (Elem.copies .copy 𝓤 H A W) (λ ρ. Unit) G15 1 12 13 0 ty·1 ℓ·0 Elem.ty Elem.ty (whole Elem.row) (bySize 136) (λ u. u .1 .1 .1 .1 .1 .1 .0) (λ x. x) Elem.past (λ x. Unit) (λ x. x) (λ x. x) (λ i o. at-mul o 136 i) refl refl (Own.told-none 𝓤 H A (G15 .slots)) (DerefMove.learns-nothing 𝓤 H A Elem.row) (as-is 𝓤 H A (mslice Elem.row ty·1 0)) (as-is 𝓤 H A (sc-here sPtr)) (room-gone 𝓤 H A Elem.ty) (Joins.makes W Elem.row refl) refl tt refl refl) d18))))))))
 
           pub typed : Typed 𝓤 H A 𝓣 E (Γin 3 ps r xs m κs qs) b30 (Δret 3 ps r xs m κs qs) Φ
-          typed = Joins.pre W (Know.g-shs-known 𝓤 H A W (fInt w8) E G0 2 1 ty·2 ℓ·1 0 (λ x. x) record { fits = Dec'.lit< tt } (as-is 𝓤 H A (sslice u8 ty·2 1)) refl tt) (Joins.pre W (Know.g-shs-known 𝓤 H A W (fInt w8) E G0 3 2 ty·4 ℓ·2 0 (λ x. x) record { fits = Dec'.lit< tt } (as-is 𝓤 H A (sslice u8 ty·4 2)) refl tt) (Joins.pre W (Lifetime.g-begin 𝓤 H A W E G0 3 (tt, (tt, (tt, (tt, (tt, (tt, (tt, (tt, (tt, (tt, (tt, (tt, (tt, (tt, (tt, tt)))))))))))))))) (then W (Reshare.t-sl-reshare 𝓤 H A W E Elem.row 𝓣 (cx t0 (ℓ·0 ∷ ℓ·1 ∷ ℓ·2 ∷ alive ∷ [])) 1 8 0 3 ty·1 ty·3 ℓ·0 0 (λ x. x) (as-is 𝓤 H A (mslice Elem.row ty·1 0)) (room-gone 𝓤 H A ty·3) refl tt refl refl refl λ b o. tt) (then W (t-sl-aggregate 𝓤 H A W E Elem.row 𝓣 (asShr Elem.row) (cx (en·6 ∷ (1, mslice-owedS Elem.row ty·1 0 3 ℓ·0) ∷ en·3 ∷ en·2 ∷ en·15 ∷ en·9 ∷ en·7 ∷ en·11 ∷ (8, ssptr Elem.row ty·3 3) ∷ en·14 ∷ es·8) ls·0) 8 9 3 ty·3 ty·3 (λ x. x) (oFld 1 ((field 1) ∷ []) (tyInt w64) 8 λ v. lenV (v .0)) (as-is 𝓤 H A (ssptr Elem.row ty·3 3)) (room-gone 𝓤 H A ty·0) (Reshare.reads-owedS-len 𝓤 H A W Elem.row ty·1 0 3 ℓ·0 8 refl, refl) refl refl λ b o k. tt) d28))))
+          typed = Joins.pre W (Know.g-shs-known 𝓤 H A W (fInt w8) E G0 2 1 ty·2 ℓ·1 0 (λ x. x) record { fits = Dec'.lit< tt } (as-is 𝓤 H A (sslice u8 ty·2 1)) refl tt) (Joins.pre W (Know.g-shs-known 𝓤 H A W (fInt w8) E G0 3 2 ty·4 ℓ·2 0 (λ x. x) record { fits = Dec'.lit< tt } (as-is 𝓤 H A (sslice u8 ty·4 2)) refl tt) (then W (t-call-plain 𝓤 H A W 𝓣 1 ps·0 r·0 (claims· .0) (claims· .1) "forms::item::call_in" (known .0) E (λ pos β. β) G0 (record { pos = 2; ty = tyRef (named 1) imm (tyInt w8); ref = λ x. x }, tt) 4 (1 ∷ []) (sub-id 𝓤 H A W (G0 .slots)) (spares-sslice 𝓤 H A W u8 ty·2 1, reads-sslice 𝓤 H A W u8 ty·2 1, refl, tt) (room-gone 𝓤 H A (tyInt w32)) (tt, tt) refl) (Joins.pre W (Lifetime.g-begin 𝓤 H A W E (cx t2 ls·1) 3 (tt, (tt, (tt, (tt, (tt, (tt, (tt, (tt, (tt, (tt, (tt, (tt, (tt, (tt, (tt, tt)))))))))))))))) (then W (Reshare.t-sl-reshare 𝓤 H A W E Elem.row 𝓣 (cx t2 (ℓ·0 ∷ ℓ·1 ∷ ℓ·2 ∷ alive ∷ [])) 1 9 0 3 ty·1 ty·3 ℓ·0 0 (λ x. x) (as-is 𝓤 H A (mslice Elem.row ty·1 0)) (room-gone 𝓤 H A ty·3) refl tt refl refl refl λ b o. tt) (then W (t-sl-aggregate 𝓤 H A W E Elem.row 𝓣 (asShr Elem.row) (cx (en·6 ∷ (1, mslice-owedS Elem.row ty·1 0 3 ℓ·0) ∷ en·3 ∷ en·2 ∷ en·1 ∷ en·15 ∷ en·13 ∷ en·9 ∷ en·14 ∷ (9, ssptr Elem.row ty·3 3) ∷ en·11 ∷ en·0 ∷ es·6) ls·0) 9 10 3 ty·3 ty·3 (λ x. x) (oFld 1 ((field 1) ∷ []) (tyInt w64) 8 λ v. lenV (v .0)) (as-is 𝓤 H A (ssptr Elem.row ty·3 3)) (room-gone 𝓤 H A ty·0) (Reshare.reads-owedS-len 𝓤 H A W Elem.row ty·1 0 3 ℓ·0 8 refl, refl) refl refl λ b o k. tt) d27)))))
 
       module _ (κs : Lfts 3) where
         pub record Args : Type 0 where
@@ -697,135 +709,138 @@ module _ (claims· : Claims) where
         pub before : After-shared-slice-known
         pub shared-slice-known2 : After-shared-slice-known2·own before
 
-      abbrev m4 : (before : After-shared-slice-known2) → (given : s3 .gives (m2 (before .before) (before .shared-slice-known2 .given))) → Mo T6
-      m4 = λ before given. s4 .next (s3 .next (m2 (before .before) (before .shared-slice-known2 .given)) given)
-
-      module _ (before· : After-shared-slice-known2) where
-        pub record After-locate-arg·own : Type 0 where
-          pub given : s3 .gives (m2 (before· .before) (before· .shared-slice-known2 .given))
-
-      pub record After-locate-arg : Type 0 where
-        pub before : After-shared-slice-known2
-        pub locate-arg : After-locate-arg·own before
-
       abbrev pub Need-call-in-requires : Type 0
-      Need-call-in-requires = (c : After-locate-arg) → s5 .asks (m4 (c .before) (c .locate-arg .given))
+      Need-call-in-requires = (c : After-shared-slice-known2) → s2 .asks (m2 (c .before) (c .shared-slice-known2 .given))
 
-      abbrev m5 : (before : After-locate-arg) → (given : s5 .gives (m4 (before .before) (before .locate-arg .given))) → Mo T7
-      m5 = λ before given. s5 .next (m4 (before .before) (before .locate-arg .given)) given
+      abbrev m3 : (before : After-shared-slice-known2) → (given : s2 .gives (m2 (before .before) (before .shared-slice-known2 .given))) → Mo T4
+      m3 = λ before given. s2 .next (m2 (before .before) (before .shared-slice-known2 .given)) given
 
       pub record After-call-in : Type 0 where
-        pub before : After-locate-arg
-        pub call-in : Called ps·0 r·0 (claims· .1) T6 args·0 (m4 (before .before) (before .locate-arg .given))
+        pub before : After-shared-slice-known2
+        pub call-in : Called ps·0 r·0 (claims· .1) T0 args·0 (m2 (before .before) (before .shared-slice-known2 .given))
 
-      abbrev After-call-in·gave : (c : After-call-in) → s5 .gives (m4 (c .before .before) (c .before .locate-arg .given))
+      abbrev After-call-in·gave : (c : After-call-in) → s2 .gives (m2 (c .before .before) (c .before .shared-slice-known2 .given))
       After-call-in·gave = λ c. gave (c .call-in)
 
-      abbrev pub Need-locate-requires : Type 0
-      Need-locate-requires = (c : After-call-in) → s6 .asks (m5 (c .before) (After-call-in·gave c))
+      abbrev m5 : (before : After-call-in) → (given : s4 .gives (m3 (before .before) (After-call-in·gave before))) → Mo T7
+      m5 = λ before given. s5 .next (s4 .next (m3 (before .before) (After-call-in·gave before)) given)
 
-      abbrev m6 : (before : After-call-in) → (given : s6 .gives (m5 (before .before) (After-call-in·gave before))) → Mo T8
-      m6 = λ before given. s6 .next (m5 (before .before) (After-call-in·gave before)) given
+      module _ (before· : After-call-in) where
+        pub record After-locate-arg·own : Type 0 where
+          pub given : s4 .gives (m3 (before· .before) (After-call-in·gave before·))
+
+      pub record After-locate-arg : Type 0 where
+        pub before : After-call-in
+        pub locate-arg : After-locate-arg·own before
+
+      abbrev pub Need-locate-requires : Type 0
+      Need-locate-requires = (c : After-locate-arg) → s6 .asks (m5 (c .before) (c .locate-arg .given))
+
+      abbrev m6 : (before : After-locate-arg) → (given : s6 .gives (m5 (before .before) (before .locate-arg .given))) → Mo T8
+      m6 = λ before given. s6 .next (m5 (before .before) (before .locate-arg .given)) given
 
       pub record After-locate : Type 0 where
-        pub before : After-call-in
-        pub locate : Called ps·1 r·1 (claims· .3) T7 args·1 (m5 (before .before) (After-call-in·gave before))
+        pub before : After-locate-arg
+        pub locate : Called ps·1 r·1 (claims· .3) T7 args·1 (m5 (before .before) (before .locate-arg .given))
 
-      abbrev After-locate·gave : (c : After-locate) → s6 .gives (m5 (c .before .before) (After-call-in·gave (c .before)))
+      abbrev After-locate·gave : (c : After-locate) → s6 .gives (m5 (c .before .before) (c .before .locate-arg .given))
       After-locate·gave = λ c. gave (c .locate)
 
-      abbrev m9 : (before : After-call-in) → (given : s6 .gives (m5 (before .before) (After-call-in·gave before))) → Mo T12
-      m9 = λ before given. s10 (s8 (s7 (m6 before given)))
+      abbrev m8 : (before : After-locate-arg) → (given : s6 .gives (m5 (before .before) (before .locate-arg .given))) → Mo T11
+      m8 = λ before given. s9 (s7 (m6 before given))
 
       abbrev pub Need-place-of-requires : Type 0
-      Need-place-of-requires = (c : After-locate) → s12 .asks (m9 (c .before) (After-locate·gave c))
+      Need-place-of-requires = (c : After-locate) → s11 .asks (m8 (c .before) (After-locate·gave c))
 
-      abbrev m10 : (before : After-locate) → (given : s12 .gives (m9 (before .before) (After-locate·gave before))) → Mo T14
-      m10 = λ before given. s12 .next (m9 (before .before) (After-locate·gave before)) given
+      abbrev m9 : (before : After-locate) → (given : s11 .gives (m8 (before .before) (After-locate·gave before))) → Mo T13
+      m9 = λ before given. s11 .next (m8 (before .before) (After-locate·gave before)) given
 
       pub record After-place-of : Type 0 where
         pub before : After-locate
-        pub place-of : Called ps·2 r·2 (claims· .5) T12 args·2 (m9 (before .before) (After-locate·gave before))
+        pub place-of : Called ps·2 r·2 (claims· .5) T11 args·2 (m8 (before .before) (After-locate·gave before))
 
-      abbrev After-place-of·gave : (c : After-place-of) → s12 .gives (m9 (c .before .before) (After-locate·gave (c .before)))
+      abbrev After-place-of·gave : (c : After-place-of) → s11 .gives (m8 (c .before .before) (After-locate·gave (c .before)))
       After-place-of·gave = λ c. gave (c .place-of)
 
       abbrev pub Need-mul-e : Type 0
-      Need-mul-e = (c : After-place-of) → s13 .asks (m10 (c .before) (After-place-of·gave c))
+      Need-mul-e = (c : After-place-of) → s12 .asks (m9 (c .before) (After-place-of·gave c))
 
-      abbrev m12 : (before : After-locate) → (given : s12 .gives (m9 (before .before) (After-locate·gave before))) → Mo T16
-      m12 = λ before given. s14 .next (s13 .next (m10 before given))
+      abbrev m11 : (before : After-locate) → (given : s11 .gives (m8 (before .before) (After-locate·gave before))) → Mo T15
+      m11 = λ before given. s13 .next (s12 .next (m9 before given))
 
       abbrev pub Need-slice-copy-out-e : Type 0
-      Need-slice-copy-out-e = (c : After-place-of) → InSlice T16 1 12 (λ x. x) (λ u. u .1 .1 .1 .1 .1 .0) (m12 (c .before) (After-place-of·gave c))
+      Need-slice-copy-out-e = (c : After-place-of) → InSlice T15 1 12 (λ x. x) (λ u. u .1 .1 .1 .1 .1 .1 .0) (m11 (c .before) (After-place-of·gave c))
 
-      abbrev m17 : (before : After-place-of) → (given : s15 .gives (m12 (before .before) (After-place-of·gave before))) → Mo T21
-      m17 = λ before given. s19 (s18 (s17 (s16 (s15 .next (m12 (before .before) (After-place-of·gave before)) given))))
+      abbrev m16 : (before : After-place-of) → (given : s14 .gives (m11 (before .before) (After-place-of·gave before))) → Mo T20
+      m16 = λ before given. s18 (s17 (s16 (s15 (s14 .next (m11 (before .before) (After-place-of·gave before)) given))))
 
       module _ (before· : After-place-of) where
         pub record After-e·own : Type 0 where
-          pub given : s15 .gives (m12 (before· .before) (After-place-of·gave before·))
+          pub given : s14 .gives (m11 (before· .before) (After-place-of·gave before·))
 
       pub record After-e : Type 0 where
         pub before : After-place-of
         pub e : After-e·own before
 
       abbrev pub Need-act-requires : Type 0
-      Need-act-requires = (c : After-e) → s20 .asks (m17 (c .before) (c .e .given))
+      Need-act-requires = (c : After-e) → s19 .asks (m16 (c .before) (c .e .given))
 
-      abbrev m18 : (before : After-e) → (given : s20 .gives (m17 (before .before) (before .e .given))) → Mo T22
-      m18 = λ before given. s20 .next (m17 (before .before) (before .e .given)) given
+      abbrev m17 : (before : After-e) → (given : s19 .gives (m16 (before .before) (before .e .given))) → Mo T21
+      m17 = λ before given. s19 .next (m16 (before .before) (before .e .given)) given
 
       pub record After-act : Type 0 where
         pub before : After-e
-        pub act : Called ps·3 r·3 (claims· .7) T21 args·3 (m17 (before .before) (before .e .given))
+        pub act : Called ps·3 r·3 (claims· .7) T20 args·3 (m16 (before .before) (before .e .given))
 
-      abbrev After-act·gave : (c : After-act) → s20 .gives (m17 (c .before .before) (c .before .e .given))
+      abbrev After-act·gave : (c : After-act) → s19 .gives (m16 (c .before .before) (c .before .e .given))
       After-act·gave = λ c. gave (c .act)
 
-      abbrev m20 : (before : After-e) → (given : s20 .gives (m17 (before .before) (before .e .given))) → Mo T24
-      m20 = λ before given. s22 (s21 (m18 before given))
+      abbrev m18 : (before : After-e) → (given : s19 .gives (m16 (before .before) (before .e .given))) → Mo T22
+      m18 = λ before given. s20 (m17 before given)
 
-      abbrev pub Need-entry-of-requires : Type 0
-      Need-entry-of-requires = (c : After-act) → s23 .asks (m20 (c .before) (After-act·gave c))
+      abbrev pub Need-entry-after-requires : Type 0
+      Need-entry-after-requires = (c : After-act) → s21 .asks (m18 (c .before) (After-act·gave c))
 
-      abbrev m21 : (before : After-act) → (given : s23 .gives (m20 (before .before) (After-act·gave before))) → Mo T25
-      m21 = λ before given. s23 .next (m20 (before .before) (After-act·gave before)) given
+      abbrev m19 : (before : After-act) → (given : s21 .gives (m18 (before .before) (After-act·gave before))) → Mo T23
+      m19 = λ before given. s21 .next (m18 (before .before) (After-act·gave before)) given
 
-      pub record After-entry-of : Type 0 where
+      pub record After-entry-after : Type 0 where
         pub before : After-act
-        pub entry-of : Called ps·4 r·4 (claims· .9) T24 args·4 (m20 (before .before) (After-act·gave before))
+        pub entry-after : Called ps·4 r·4 (claims· .9) T22 args·4 (m18 (before .before) (After-act·gave before))
 
-      abbrev After-entry-of·gave : (c : After-entry-of) → s23 .gives (m20 (c .before .before) (After-act·gave (c .before)))
-      After-entry-of·gave = λ c. gave (c .entry-of)
+      abbrev After-entry-after·gave : (c : After-entry-after) → s21 .gives (m18 (c .before .before) (After-act·gave (c .before)))
+      After-entry-after·gave = λ c. gave (c .entry-after)
+
+      abbrev m20 : (before : After-act) → (given : s21 .gives (m18 (before .before) (After-act·gave before))) → Mo T24
+      m20 = λ before given. s22 (m19 before given)
 
       abbrev pub Need-mul-t11 : Type 0
-      Need-mul-t11 = (c : After-entry-of) → s24 .asks (m21 (c .before) (After-entry-of·gave c))
+      Need-mul-t11 = (c : After-entry-after) → s23 .asks (m20 (c .before) (After-entry-after·gave c))
 
-      abbrev m23 : (before : After-act) → (given : s23 .gives (m20 (before .before) (After-act·gave before))) → Mo T27
-      m23 = λ before given. s25 .next (s24 .next (m21 before given))
+      abbrev m22 : (before : After-act) → (given : s21 .gives (m18 (before .before) (After-act·gave before))) → Mo T26
+      m22 = λ before given. s24 .next (s23 .next (m20 before given))
 
       abbrev pub Need-slice-set-from-table : Type 0
-      Need-slice-set-from-table = (c : After-entry-of) → InSlice T27 1 14 (λ x. x) (λ u. u .1 .1 .1 .1 .1 .0) (m23 (c .before) (After-entry-of·gave c))
+      Need-slice-set-from-table = (c : After-entry-after) → InSlice T26 1 14 (λ x. x) (λ u. u .1 .1 .1 .1 .1 .1 .0) (m22 (c .before) (After-entry-after·gave c))
 
-      abbrev m27 : (before : After-act) → (given : s23 .gives (m20 (before .before) (After-act·gave before))) → Mo T24
-      m27 = λ before given. s29 (s28 (s27 (s26 .next (m23 before given))))
+      abbrev m26 : (before : After-act) → (given : s21 .gives (m18 (before .before) (After-act·gave before))) → Mo T30
+      m26 = λ before given. s28 (s27 (s26 (s25 .next (m22 before given))))
 
       abbrev pub Need-answer-of-requires : Type 0
-      Need-answer-of-requires = (c : After-entry-of) → s30 .asks (m27 (c .before) (After-entry-of·gave c))
+      Need-answer-of-requires = (c : After-entry-after) → s29 .asks (m26 (c .before) (After-entry-after·gave c))
 
-      abbrev m28 : (before : After-entry-of) → (given : s30 .gives (m27 (before .before) (After-entry-of·gave before))) → Mo T32
-      m28 = λ before given. s30 .next (m27 (before .before) (After-entry-of·gave before)) given
+      abbrev m27 : (before : After-entry-after) → (given : s29 .gives (m26 (before .before) (After-entry-after·gave before))) → Mo T31
+      m27 = λ before given. s29 .next (m26 (before .before) (After-entry-after·gave before)) given
 
       pub record After-answer-of : Type 0 where
-        pub before : After-entry-of
-        pub answer-of : Called ps·4 r·5 (claims· .11) T24 args·4 (m27 (before .before) (After-entry-of·gave before))
+        pub before : After-entry-after
+        pub answer-of : Called ps·5 r·5 (claims· .11) T30 args·5 (m26 (before .before) (After-entry-after·gave before))
 
-      abbrev After-answer-of·gave : (c : After-answer-of) → s30 .gives (m27 (c .before .before) (After-entry-of·gave (c .before)))
+      abbrev After-answer-of·gave : (c : After-answer-of) → s29 .gives (m26 (c .before .before) (After-entry-after·gave (c .before)))
       After-answer-of·gave = λ c. gave (c .answer-of)
 
-      abbrev m30 : (before : After-entry-of) → (given : s30 .gives (m27 (before .before) (After-entry-of·gave before))) → Mo T1
-      m30 = λ before given. s32 (s31 (m28 before given))
+      abbrev m30 : (before : After-entry-after) → (given : s29 .gives (m26 (before .before) (After-entry-after·gave before))) → Mo T1
+      m30 = λ before given. s32 (s31 (s30 (m27 before given)))
 
       abbrev pub Need-same-length : Type 0
       Need-same-length = (c : After-answer-of) → SameLen (get 1 (T1 .locals) (m30 (c .before) (After-answer-of·gave c))) (dens (c .before .before .before .before .before .before .before .before .before .before .κs) (c .before .before .before .before .before .before .before .before .before .before .args) .0)
@@ -833,32 +848,32 @@ module _ (claims· : Claims) where
       abbrev pub Need-returns : Type 0
       Need-returns = (c : After-answer-of) → Returns (c .before .before .before .before .before .before .before .before .before .before) (m30 (c .before) (After-answer-of·gave c))
 
-      module _ (call-in-requires : Need-call-in-requires) (locate-requires : Need-locate-requires) (place-of-requires : Need-place-of-requires) (mul-e : Need-mul-e) (slice-copy-out-e : Need-slice-copy-out-e) (act-requires : Need-act-requires) (entry-of-requires : Need-entry-of-requires) (mul-t11 : Need-mul-t11) (slice-set-from-table : Need-slice-set-from-table) (answer-of-requires : Need-answer-of-requires) (same-length : Need-same-length) (returns : Need-returns) where
-        lay6 : (c : After-answer-of) → at2 (Wanted (c .before .before .before .before .before .before .before .before .before .before)) (m28 (c .before) (After-answer-of·gave c))
+      module _ (call-in-requires : Need-call-in-requires) (locate-requires : Need-locate-requires) (place-of-requires : Need-place-of-requires) (mul-e : Need-mul-e) (slice-copy-out-e : Need-slice-copy-out-e) (act-requires : Need-act-requires) (entry-after-requires : Need-entry-after-requires) (mul-t11 : Need-mul-t11) (slice-set-from-table : Need-slice-set-from-table) (answer-of-requires : Need-answer-of-requires) (same-length : Need-same-length) (returns : Need-returns) where
+        lay6 : (c : After-answer-of) → at3 (Wanted (c .before .before .before .before .before .before .before .before .before .before)) (m27 (c .before) (After-answer-of·gave c))
         lay6 = λ c. ((fix-len (get 1 (T1 .locals) (m30 (c .before) (After-answer-of·gave c)) .ptr) (get 1 (T1 .locals) (m30 (c .before) (After-answer-of·gave c)) .name) (get 1 (T1 .locals) (m30 (c .before) (After-answer-of·gave c)) .now) (dens (c .before .before .before .before .before .before .before .before .before .before .κs) (c .before .before .before .before .before .before .before .before .before .before .args) .0 .now) (same-length c), (refl, (refl, tt))), returns c)
 
-        lay5 : (c : After-entry-of) → at9 (Wanted (c .before .before .before .before .before .before .before .before .before)) (m21 (c .before) (After-entry-of·gave c))
+        lay5 : (c : After-entry-after) → at11 (Wanted (c .before .before .before .before .before .before .before .before .before)) (m19 (c .before) (After-entry-after·gave c))
         lay5 = λ c. (mul-t11 c, (tt, ((refl, refl, slice-set-from-table c), (answer-of-requires c, λ g. lay6 record { before = c; answer-of = called g }))))
 
-        lay4 : (c : After-act) → at12 (Wanted (c .before .before .before .before .before .before .before .before)) (m18 (c .before) (After-act·gave c))
-        lay4 = λ c. (entry-of-requires c, λ g. lay5 record { before = c; entry-of = called g })
+        lay4 : (c : After-act) → at13 (Wanted (c .before .before .before .before .before .before .before .before)) (m17 (c .before) (After-act·gave c))
+        lay4 = λ c. (entry-after-requires c, λ g. lay5 record { before = c; entry-after = called g })
 
-        lay3 : (c : After-place-of) → at20 (Wanted (c .before .before .before .before .before .before)) (m10 (c .before) (After-place-of·gave c))
+        lay3 : (c : After-place-of) → at21 (Wanted (c .before .before .before .before .before .before)) (m9 (c .before) (After-place-of·gave c))
         lay3 = λ c. (mul-e c, (tt, ((refl, refl, slice-copy-out-e c), λ g. (act-requires record { before = c; e = record { given = g } }, λ g'. lay4 record { before = record { before = c; e = record { given = g } }; act = called g' }))))
 
         lay2 : (c : After-locate) → at26 (Wanted (c .before .before .before .before .before)) (m6 (c .before) (After-locate·gave c))
         lay2 = λ c. (place-of-requires c, λ g. lay3 record { before = c; place-of = called g })
 
-        lay1 : (c : After-call-in) → at27 (Wanted (c .before .before .before .before)) (m5 (c .before) (After-call-in·gave c))
-        lay1 = λ c. (locate-requires c, λ g. lay2 record { before = c; locate = called g })
+        lay1 : (c : After-call-in) → at30 (Wanted (c .before .before .before)) (m3 (c .before) (After-call-in·gave c))
+        lay1 = λ c. λ g. (refl, (locate-requires record { before = c; locate-arg = record { given = g } }, λ g'. lay2 record { before = record { before = c; locate-arg = record { given = g } }; locate = called g' }))
 
         pub laid : (c : Start) → at33 (Wanted c) (m0 (c .κs) (c .args))
-        laid = λ c. λ g. λ g'. λ g''. (refl, (call-in-requires record { before = record { before = record { before = c; shared-slice-known = record { given = g } }; shared-slice-known2 = record { given = g' } }; locate-arg = record { given = g'' } }, λ g'3. lay1 record { before = record { before = record { before = record { before = c; shared-slice-known = record { given = g } }; shared-slice-known2 = record { given = g' } }; locate-arg = record { given = g'' } }; call-in = called g'3 }))
+        laid = λ c. λ g. λ g'. (call-in-requires record { before = record { before = c; shared-slice-known = record { given = g } }; shared-slice-known2 = record { given = g' } }, λ g''. lay1 record { before = record { before = record { before = c; shared-slice-known = record { given = g } }; shared-slice-known2 = record { given = g' } }; call-in = called g'' })
 
         module _ (κs : Lfts 3) (qs : Shares 3) where
           pub asked : (a : Dens κs ps) → (good : Kinds.GoodsP κs ps a) → (pre : Pre· κs a) → (bs : List ℕ) → Φ (Any.wantQ 3 ps r xs m κs qs a (Post· κs a)) (init 3 ps r xs m κs qs a)
           asked = λ a good pre bs. laid record { κs = κs; args = record { table = a .0; item = a .1 .0; profile = a .1 .1 .0 }; good = good; pre = pre }
 
-        module _ {M : Type 1} (𝓤 : URA M) (H : Wp.Heap 𝓤) (A : Atoms 𝓤) (W : Given 𝓤 H A) (𝓣 : Wp.Tables 𝓤 H) (known0 : Known 𝓤 H A W 𝓣 1 ps·0 r·0 (claims· .0) (claims· .1) "forms::item::call_in") (known1 : Known 𝓤 H A W 𝓣 1 ps·1 r·1 (claims· .2) (claims· .3) "table::lookup::locate") (known2 : Known 𝓤 H A W 𝓣 0 ps·2 r·2 (claims· .4) (claims· .5) "table::lookup::place_of") (known3 : Known 𝓤 H A W 𝓣 2 ps·3 r·3 (claims· .6) (claims· .7) "table::serve::act") (known4 : Known 𝓤 H A W 𝓣 0 ps·4 r·4 (claims· .8) (claims· .9) "table::serve::entry_of") (known5 : Known 𝓤 H A W 𝓣 0 ps·4 r·5 (claims· .10) (claims· .11) "table::serve::answer_of") where
+        module _ {M : Type 1} (𝓤 : URA M) (H : Wp.Heap 𝓤) (A : Atoms 𝓤) (W : Given 𝓤 H A) (𝓣 : Wp.Tables 𝓤 H) (known0 : Known 𝓤 H A W 𝓣 1 ps·0 r·0 (claims· .0) (claims· .1) "forms::item::call_in") (known1 : Known 𝓤 H A W 𝓣 1 ps·1 r·1 (claims· .2) (claims· .3) "table::lookup::locate") (known2 : Known 𝓤 H A W 𝓣 0 ps·2 r·2 (claims· .4) (claims· .5) "table::lookup::place_of") (known3 : Known 𝓤 H A W 𝓣 2 ps·3 r·3 (claims· .6) (claims· .7) "table::serve::act") (known4 : Known 𝓤 H A W 𝓣 0 ps·4 r·4 (claims· .8) (claims· .9) "table::serve::entry_after") (known5 : Known 𝓤 H A W 𝓣 0 ps·5 r·5 (claims· .10) (claims· .11) "table::serve::answer_of") where
           pub spec : Triple 𝓤 (Wp.WpFn 𝓤 H (𝓣 .C) (𝓣 .Λ) (fnOf 3 ps r xs m hs body)) (plainOf 𝓤 H A 3 ps r Pre· Post·)
           spec = t-fn-plain 𝓤 H A W 𝓣 3 ps r xs m hs body (λ κs qs bs. Φ) (λ κs qs bs bd. typed κs qs 𝓤 H A W 𝓣 (known0, known1, known2, known3, known4, known5) bs bd) Pre· Post· asked

@@ -1,80 +1,61 @@
 -- Made by tools/transplant.py of the derivation that Rattle generates for the surrogate of `table::lookup::locate`: not written by hand.
 use borrow.Fn.World.{World}
+use Rattle.table.proofs.lookup.first_of.Met
+use Rattle.table.proofs.Lent.lookup_first_of_Reads as Reads
+use Rattle.table.proofs.lookup.first_of.Symbol
 use Rattle.table.proofs.lookup.locate.Code
 use Rattle.table.proofs.lookup.locate.Key
 use Rattle.table.proofs.Lent.lookup_locate_Kinds as Kinds
 use Rattle.table.proofs.lookup.locate.Proof.Lts
 use Rattle.table.proofs.Lent.lookup_locate_Reads.{Ghost, Owned, Pinned, Post, Pre, ensures, owns, passes, post-read, pre-read, requires}
 use Rattle.table.proofs.lookup.locate.Statement
-use Rattle.table.proofs.lookup.next_place.Met
-use Rattle.table.proofs.lookup.next_place.Reads as Reads'
-use Rattle.table.proofs.lookup.next_place.Symbol
-use Rattle.table.proofs.lookup.notice.Met as Met'
-use Rattle.table.proofs.lookup.notice.Reads as Reads''
-use Rattle.table.proofs.lookup.notice.Symbol as Symbol'
 use borrow.Fn.Run
 use borrow.Fn.Written
 use contract.Running
 
 abbrev given : Lts.Claims
-given = (Reads''.Asked, Reads''.Learnt, Reads'.Asked, Reads'.Learnt)
+given = (Reads.Asked, Reads.Learnt)
 
-abbrev pub InvT-loop : Type 1
-InvT-loop = Lts.InvT-loop
+abbrev pub Start : Type 0
+Start = Lts.Start given Pre Post
 
-abbrev pub MeasureT-loop : Type 0
-MeasureT-loop = Lts.MeasureT-loop
+abbrev pub After-first-of : Type 0
+After-first-of = Lts.After-first-of given Pre Post
 
-module _ (Inv : InvT-loop) (μ : MeasureT-loop) where
-  abbrev pub Start : Type 0
-  Start = Lts.Start given Pre Post Inv μ
+abbrev pub Then1 : Type 0
+Then1 = Lts.Then1 given Pre Post
 
-  abbrev pub At-loop : Type 0
-  At-loop = Lts.At-loop given Pre Post Inv μ
+abbrev pub Else1 : Type 0
+Else1 = Lts.Else1 given Pre Post
 
-  abbrev pub In-loop : Type 0
-  In-loop = Lts.In-loop given Pre Post Inv μ
+abbrev pub After-first-of-02 : Type 0
+After-first-of-02 = Lts.After-first-of-02 given Pre Post
 
-  abbrev pub After-loop : Type 0
-  After-loop = Lts.After-loop given Pre Post Inv μ
+abbrev pub Then2 : Type 0
+Then2 = Lts.Then2 given Pre Post
 
-  abbrev pub After-e : Type 0
-  After-e = Lts.After-e given Pre Post Inv μ
+abbrev pub Else2 : Type 0
+Else2 = Lts.Else2 given Pre Post
 
-  abbrev pub After-notice : Type 0
-  After-notice = Lts.After-notice given Pre Post Inv μ
+abbrev pub Need-first-of-requires : Type 0
+Need-first-of-requires = Lts.Need-first-of-requires given Pre Post
 
-  abbrev pub After-next-place : Type 0
-  After-next-place = Lts.After-next-place given Pre Post Inv μ
+abbrev pub Need-returns : Type 0
+Need-returns = Lts.Need-returns given Pre Post
 
-  abbrev pub Need-loop-holds : Type 0
-  Need-loop-holds = Lts.Need-loop-holds given Pre Post Inv μ
+abbrev pub Need-first-of-requires-2 : Type 0
+Need-first-of-requires-2 = Lts.Need-first-of-requires-2 given Pre Post
 
-  abbrev pub Need-mul-e : Type 0
-  Need-mul-e = Lts.Need-mul-e given Pre Post Inv μ
+abbrev pub Need-returns-2 : Type 0
+Need-returns-2 = Lts.Need-returns-2 given Pre Post
 
-  abbrev pub Need-shared-slice-copy-out-e : Type 0
-  Need-shared-slice-copy-out-e = Lts.Need-shared-slice-copy-out-e given Pre Post Inv μ
-
-  abbrev pub Need-notice-requires : Type 0
-  Need-notice-requires = Lts.Need-notice-requires given Pre Post Inv μ
-
-  abbrev pub Need-next-place-requires : Type 0
-  Need-next-place-requires = Lts.Need-next-place-requires given Pre Post Inv μ
-
-  abbrev pub Need-loop-less : Type 0
-  Need-loop-less = Lts.Need-loop-less given Pre Post Inv μ
-
-  abbrev pub Need-loop-again : Type 0
-  Need-loop-again = Lts.Need-loop-again given Pre Post Inv μ
-
-  abbrev pub Need-returns : Type 0
-  Need-returns = Lts.Need-returns given Pre Post Inv μ
-
-  pub spec : {M : Type 1} → Need-loop-holds → Need-mul-e → Need-shared-slice-copy-out-e → Need-notice-requires → Need-next-place-requires → Need-loop-less → Need-loop-again → Need-returns → Lts.Closed given Pre Post M
-  spec = λ a0 a1 a2 a3 a4 a5 a6 a7. Lts.spec given Pre Post Inv μ a0 a1 a2 a3 a4 a5 a6 a7
+abbrev pub Need-returns-3 : Type 0
+Need-returns-3 = Lts.Need-returns-3 given Pre Post
 
 module _ {M : Type 1} where
+  pub spec : Need-first-of-requires → Need-returns → Need-first-of-requires-2 → Need-returns-2 → Need-returns-3 → Lts.Closed given Pre Post M
+  spec = λ a0 a1 a2 a3 a4. Lts.spec given Pre Post a0 a1 a2 a3 a4
+
   pub close : Lts.Closed given Pre Post M → Statement.statement M
   unfolding Code.routine Running.tablesOf
-  close = λ closed 𝓤 H 𝓜 𝓖 𝓡. let w : World = record { M = M; 𝓤 = 𝓤; H = H; 𝓜 = 𝓜; 𝓖 = 𝓖; 𝓡 = 𝓡 } in Written.close 1 Kinds.ps Kinds.r Ghost requires ensures pre-read Pinned Owned post-read w Code.env Key.name Code.function (Code.unfolded 𝓤 H 𝓜 𝓡) (λ κs a g. tt) (λ κs. owns κs w) (passes w) λ g. closed 𝓤 H (𝓖 .A) (Running.givenOf 𝓤 H 𝓜 𝓖) (Run.Over 𝓤 H 𝓜 𝓖 𝓡 Code.env) (Reads''.known w Code.env Symbol'.name Symbol'.routine Code.calls-table·lookup·notice (Met'.met 𝓤 H 𝓜 𝓖 𝓡)) (Reads'.known w Code.env Symbol.name Symbol.routine Code.calls-table·lookup·next-place (Met.met 𝓤 H 𝓜 𝓖 𝓡))
+  close = λ closed 𝓤 H 𝓜 𝓖 𝓡. let w : World = record { M = M; 𝓤 = 𝓤; H = H; 𝓜 = 𝓜; 𝓖 = 𝓖; 𝓡 = 𝓡 } in Written.close 1 Kinds.ps Kinds.r Ghost requires ensures pre-read Pinned Owned post-read w Code.env Key.name Code.function (Code.unfolded 𝓤 H 𝓜 𝓡) (λ κs a g. tt) (λ κs. owns κs w) (passes w) λ g. closed 𝓤 H (𝓖 .A) (Running.givenOf 𝓤 H 𝓜 𝓖) (Run.Over 𝓤 H 𝓜 𝓖 𝓡 Code.env) (Reads.known w Code.env Symbol.name Symbol.routine Code.calls-table·lookup·first-of (Met.met 𝓤 H 𝓜 𝓖 𝓡))
