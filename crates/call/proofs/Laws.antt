@@ -15,16 +15,17 @@ use Rattle.forms.specs.Item.{entryOf, pad}
 use Rattle.forms.specs.Item.{formOf, restInRange, itemInRange}
 use Rattle.forms.specs.Profile.{viewOf, profileOf, isProfile, readProfile}
 use Rattle.forms.specs.Units.{clockEnd}
-use Rattle.call.specs.Types.{Entry, Item, Tenths, Mode, Arming, Record, Check}
+use Rattle.call.specs.Types.{Entry, Item, Tenths, Mode, Arming, Named, Record, Check}
 use Rattle.forms.specs.declared.profile.ProfileView.{ProfileView}
 use Rattle.forms.specs.declared.profile.ReadProfile.the-variants.{Profile, Refused}
 use Rattle.forms.proofs.ByteLaws.{and-right}
 use Rattle.forms.proofs.ItemLaws.{item-size}
 use Rattle.call.specs.declared.answers.Check.the-variants.{Pass, Fail}
+use Rattle.call.specs.declared.points.Named.the-variants.{Unknown, Known}
 use Rattle.call.specs.Points.{unarmed}
 use Rattle.call.specs.Relationship.{isMode, someArmed}
 use Rattle.call.specs.Answers.{Row, row, firstOf}
-use Rattle.call.specs.Arming.{entriesOf, named, isGood, seenAfter, areGood, isPossible, arePossible, armedBy, armedWith}
+use Rattle.call.specs.Arming.{entriesOf, named, isGood, placeNamed, seenAfter, areGood, isPossible, arePossible, armedBy, armedWith}
 use Rattle.call.specs.Range.{placesInRange}
 
 -- ---- numbers
@@ -130,6 +131,11 @@ places-end c l i ok h = rw (drop-of-length-le l h, and-true)
 
 -- ---- loops over entries: those from i on begin with entry i
 
+-- a good entry names a role, so a store at the place that is named is a store at its place
+see-named : (x : Named) (seen : List Bool) (e : Entry) → isGood x seen e ≡ true → set seen (placeNamed x) true ≡ seenAfter x seen
+see-named Unknown seen e g = absurd (let z : _≡_ {A = ℕ} 0 1 = cc in omega arith)
+see-named (Known p) seen e g = refl
+
 module _ (n i : ℕ) (t : List ℕ) where
   abbrev from : List Entry
   from = entriesOf (n - i) (drop (i * 5) t)
@@ -148,9 +154,9 @@ module _ (n i : ℕ) (t : List ℕ) where
         let k : i * 5 + 5 ≡ (i + 1) * 5 = omega arith in
         rw (e, drop-drop 5 (i * 5) t, k)
 
-    pub good-step : (seen : List Bool) → isGood (named entry) seen entry ≡ true → areGood (seenAfter (named entry) seen) next ≡ areGood seen from
+    pub good-step : (seen : List Bool) → isGood (named entry) seen entry ≡ true → areGood (set seen (placeNamed (named entry)) true) next ≡ areGood seen from
     unfolding areGood
-    good-step seen g = rw (entries-next, g)
+    good-step seen g = rw (see-named (named entry) seen entry g, entries-next, g)
 
     pub good-stop : (seen : List Bool) → isGood (named entry) seen entry ≡ false → areGood seen from ≡ false
     unfolding areGood

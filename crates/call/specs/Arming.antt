@@ -42,6 +42,11 @@ abbrev pub seenAfter : Named → List Bool → List Bool
 seenAfter Unknown seen = seen
 seenAfter (Known p) seen = set seen (placeOf p) true
 
+-- the place of the role that is named; 0 for none
+abbrev pub placeNamed : Named → ℕ
+placeNamed Unknown = 0
+placeNamed (Known p) = placeOf p
+
 unfoldable pub areGood : List Bool → List Entry → Bool
 areGood seen [] = true
 areGood seen (e ∷ es) = isGood (named e) seen e && areGood (seenAfter (named e) seen) es

@@ -2,9 +2,10 @@
 ghost use mathlib.Core.Path.{_≡_};
 ghost use mathlib.Core.Bool.{_&&_};
 ghost use mathlib.Core.List.{[], _∷_};
+ghost use Prim.Native.Nat.{_<_};
 ghost use Rattle.call.specs.Answers.{firstOf};
 ghost use Rattle.call.specs.Refusals.{row11, row12};
-ghost use Rattle.call.specs.Arming.{entriesOf, isModeFor, isTimerFor, isGood, seenAfter, canOccur, isPossible, arePossible, keptAfter, armedBy, armedWith, requestReport};
+ghost use Rattle.call.specs.Arming.{entriesOf, isModeFor, isTimerFor, isGood, placeNamed, canOccur, isPossible, arePossible, keptAfter, armedBy, armedWith, requestReport};
 use crate::answers;
 use crate::answers::*;
 use crate::charging;
@@ -43,18 +44,13 @@ fn is_good(x: Named, seen: [bool; 10], e: Entry) -> bool
     }
 }
 
-// The roles named so far, and this one.
-fn see(x: Named, seen: [bool; 10]) -> [bool; 10]
-    ensures { λ r. ⌜ r ≡ seenAfter x seen ⌝ }
+// The place of the named role; 0 where none is named.
+fn place_named(x: Named) -> usize
+    ensures { λ r. ⌜ (r ≡ placeNamed x) × (r < 10) ⌝ }
 {
-    let mut s = seen;
     match x {
-        Named::Unknown => s,
-        Named::Known(p) => {
-            let i = points::place_of(p);
-            s[i] = true;
-            s
-        }
+        Named::Unknown => 0,
+        Named::Known(p) => points::place_of(p),
     }
 }
 
@@ -91,8 +87,8 @@ pub(crate) fn entries_refusal(r: Record, n: u8, t: &[u8]) -> Check
         let e = item::nth_entry(t, i);
         let x = points::role_of(e.leg, e.point);
         if is_good(x, seen, e) {
-            let more = see(x, seen);
-            seen = more;
+            let k = place_named(x);
+            seen[k] = true;
             possible = possible & is_possible(r, x, e.mode);
             i += 1;
         } else {

@@ -29,7 +29,7 @@ loop-again c =
     let x = q .before .role-of .ensures in
     let g = (simp (x, e) at (sym (q .is-good .ensures))) ∙ c .before .before .if1 .taken in (
       omega arith,
-      rw (c .before .see .ensures, x, e) (good-step (a .n) (p .loop .i) (a .t .now) h (p .loop .seen) g ∙ p .loop .inv .1),
+      rw (c .before .place-named .ensures .0, x, e) (good-step (a .n) (p .loop .i) (a .t .now) h (p .loop .seen) g ∙ p .loop .inv .1),
       rw (c .is-possible .ensures, x, e) (possible-step (a .n) (p .loop .i) (a .t .now) h (a .r) (p .loop .possible) ∙ p .loop .inv .2),
     )
 
@@ -51,4 +51,4 @@ returns-2 c =
 pub entries-refusal-spec : {M : Type 1} → statement M
 entries-refusal-spec =
     tie.close
-    (tie.spec Inv-loop μ-loop (λ c. (search needs, rw sub-zero, rw sub-zero)) (λ c κs. search needs) (λ c κs. search needs) (λ c κs. search needs) (λ c κs. search needs) (λ c κs. search needs) (λ c. search needs) (λ c. omega arith) loop-again returns (λ c κs. search needs) returns-2)
+    (tie.spec Inv-loop μ-loop (λ c. (search needs, rw sub-zero, rw sub-zero)) (λ c κs. search needs) (λ c κs. search needs) (λ c κs. search needs) (λ c κs. search needs) (λ c. omega arith) (λ c κs. search needs) (λ c. search needs) (λ c. omega arith) loop-again returns (λ c κs. search needs) returns-2)
