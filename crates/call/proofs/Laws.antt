@@ -8,7 +8,7 @@ use native.Mathlib.Nat.{sub-eq-zero-of-le}
 use native.Mathlib.Omega.{arith}
 use lib.Dec.{ltb, eqb}
 use lib.ListN.{length, getD, take, drop, set, drop-of-length-le}
-use lib.Seq.{drop-cons, drop-drop, take-suc-set}
+use lib.Seq.{drop-cons, drop-drop, take-suc-set, set-getD}
 use borrow.Author.Tests.{ltb-true, ltb-false, lt-ltb, le-ltb}
 use Rattle.forms.specs.Fields.{isDigit, allInRange}
 use Rattle.forms.specs.Item.{entryOf, pad}
@@ -23,9 +23,10 @@ use Rattle.forms.proofs.ItemLaws.{item-size}
 use Rattle.call.specs.declared.answers.Check.the-variants.{Pass, Fail}
 use Rattle.call.specs.declared.points.Named.the-variants.{Unknown, Known}
 use Rattle.call.specs.Points.{unarmed}
+use Rattle.call.specs.Record.{armedAs}
 use Rattle.call.specs.Relationship.{isMode, someArmed}
 use Rattle.call.specs.Answers.{Row, row, firstOf}
-use Rattle.call.specs.Arming.{entriesOf, named, isGood, placeNamed, seenAfter, areGood, isPossible, arePossible, armedBy, armedWith}
+use Rattle.call.specs.Arming.{entriesOf, named, isGood, placeNamed, seenAfter, areGood, isPossible, arePossible, armingAfter, keptFor, armedBy, armedWith}
 use Rattle.call.specs.Range.{placesInRange}
 
 -- ---- numbers
@@ -131,10 +132,18 @@ places-end c l i ok h = rw (drop-of-length-le l h, and-true)
 
 -- ---- loops over entries: those from i on begin with entry i
 
--- a good entry names a role, so a store at the place that is named is a store at its place
+-- a good entry names a role, so the store is at the role's place
 see-named : (x : Named) (seen : List Bool) (e : Entry) → isGood x seen e ≡ true → set seen (placeNamed x) true ≡ seenAfter x seen
 see-named Unknown seen e g = absurd (let z : _≡_ {A = ℕ} 0 1 = cc in omega arith)
 see-named (Known p) seen e g = refl
+
+-- the record after one entry's stores: where no role is named, they store what was there
+abbrev stored : Record → Named → Entry → Record
+stored r x e = armedAs r (set (r .armings) (placeNamed x) (armingAfter x (e .mode) (getD (r .armings) (placeNamed x) unarmed))) (keptFor x (e .timer) (r .kept))
+
+arm-named : (r : Record) (x : Named) (e : Entry) → stored r x e ≡ armedBy r x e
+arm-named r Unknown e = rw (set-getD (r .armings) 0 unarmed)
+arm-named r (Known p) e = refl
 
 module _ (n i : ℕ) (t : List ℕ) where
   abbrev from : List Entry
@@ -166,9 +175,9 @@ module _ (n i : ℕ) (t : List ℕ) where
     unfolding arePossible
     possible-step r ok = rw (entries-next, and-assoc)
 
-    pub arm-step : (r : Record) → armedWith (armedBy r (named entry) entry) next ≡ armedWith r from
+    pub arm-step : (r : Record) → armedWith (stored r (named entry) entry) next ≡ armedWith r from
     unfolding armedWith
-    arm-step r = rw entries-next
+    arm-step r = rw (arm-named r (named entry) entry, entries-next)
 
   module _ (h : n ≤ i) where
     entries-end : from ≡ []

@@ -6,7 +6,7 @@ use lib.Dec.{leb, eqb}
 use lib.ListN.{getD, set, drop, replicate}
 use Rattle.forms.specs.Item.{entryOf}
 use Rattle.forms.specs.Units.{isTimer}
-use Rattle.call.specs.Types.{Entry, Seconds, Tenths, Role, Named, Record, Stepped}
+use Rattle.call.specs.Types.{Entry, Seconds, Tenths, Role, Named, Arming, Record, Stepped}
 use Rattle.call.specs.declared.points.Role.the-variants.{Moved, NoAnswer}
 use Rattle.call.specs.declared.points.Named.the-variants.{Unknown, Known}
 use Rattle.call.specs.Points.{placeOf, isRole, roleOf, occursFrom}
@@ -42,7 +42,7 @@ abbrev pub seenAfter : Named → List Bool → List Bool
 seenAfter Unknown seen = seen
 seenAfter (Known p) seen = set seen (placeOf p) true
 
--- the place of the role that is named; 0 for none
+-- the place of the role that is named; 0 if none is
 abbrev pub placeNamed : Named → ℕ
 placeNamed Unknown = 0
 placeNamed (Known p) = placeOf p
@@ -73,6 +73,15 @@ arePossible r (e ∷ es) = isPossible r (named e) (e .mode) && arePossible r es
 -- "a nonzero one is kept, 0 changes nothing kept"
 abbrev pub keptAfter : Seconds → Seconds → Seconds
 keptAfter timer kept = cond (eqb (timer .0) 0) kept timer
+
+-- what an entry leaves at its place, and what it leaves as the kept timer; what was there if no role is named
+abbrev pub armingAfter : Named → ℕ → Arming → Arming
+armingAfter Unknown m old = old
+armingAfter (Known p) m old = record { mode = modeOf m }
+
+abbrev pub keptFor : Named → Seconds → Seconds → Seconds
+keptFor Unknown timer kept = kept
+keptFor (Known p) timer kept = keptAfter timer kept
 
 -- "each overwrites its point"
 abbrev pub armedBy : Record → Named → Entry → Record

@@ -5,7 +5,7 @@ ghost use mathlib.Core.List.{[], _∷_};
 ghost use Prim.Native.Nat.{_<_};
 ghost use Rattle.call.specs.Answers.{firstOf};
 ghost use Rattle.call.specs.Refusals.{row11, row12};
-ghost use Rattle.call.specs.Arming.{entriesOf, isModeFor, isTimerFor, isGood, placeNamed, canOccur, isPossible, arePossible, keptAfter, armedBy, armedWith, requestReport};
+ghost use Rattle.call.specs.Arming.{entriesOf, isModeFor, isTimerFor, isGood, placeNamed, canOccur, isPossible, arePossible, keptAfter, armingAfter, keptFor, armedWith, requestReport};
 use crate::answers;
 use crate::answers::*;
 use crate::charging;
@@ -44,7 +44,7 @@ fn is_good(x: Named, seen: [bool; 10], e: Entry) -> bool
     }
 }
 
-// The place of the named role; 0 where none is named.
+// The place of the role that is named; 0 if none is.
 fn place_named(x: Named) -> usize
     ensures { λ r. ⌜ (r ≡ placeNamed x) × (r < 10) ⌝ }
 {
@@ -104,28 +104,28 @@ fn kept_after(timer: Seconds, kept: Seconds) -> Seconds
     if timer.0 == 0 { kept } else { timer }
 }
 
-// One entry overwrites its point.
-fn arm(r: Record, x: Named, e: Entry) -> Record
-    ensures { λ s. ⌜ s ≡ armedBy r x e ⌝ }
+// What an entry leaves at its place; `old` if no role is named.
+fn arming_after(x: Named, m: u8, old: Arming) -> Arming
+    ensures { λ a. ⌜ a ≡ armingAfter x m old ⌝ }
 {
-    let mode = e.mode;
-    let timer = e.timer;
-    let kept = r.kept;
+    let mode = relationship::mode_of(m);
     match x {
-        Named::Unknown => r,
-        Named::Known(p) => {
-            let i = points::place_of(p);
-            let m = relationship::mode_of(mode);
-            let a = Arming { mode: m };
-            let mut s = r;
-            s.armings[i] = a;
-            s.kept = kept_after(timer, kept);
-            s
-        }
+        Named::Unknown => old,
+        Named::Known(p) => Arming { mode },
     }
 }
 
-// All entries, one after the other.
+// What an entry leaves as the kept timer; `kept` if no role is named.
+fn kept_for(x: Named, timer: Seconds, kept: Seconds) -> Seconds
+    ensures { λ r. ⌜ r ≡ keptFor x timer kept ⌝ }
+{
+    match x {
+        Named::Unknown => kept,
+        Named::Known(p) => kept_after(timer, kept),
+    }
+}
+
+// All entries, one after the other. Each stores where the record lies, as a copy of it each turn takes time.
 pub(crate) fn arm_all(r: Record, n: u8, t: &[u8]) -> Record
     ensures { λ s. ⌜ s ≡ armedWith r (entriesOf n (now (t .entry))) ⌝ }
 {
@@ -134,7 +134,12 @@ pub(crate) fn arm_all(r: Record, n: u8, t: &[u8]) -> Record
     while i < n {
         let e = item::nth_entry(t, i);
         let x = points::role_of(e.leg, e.point);
-        s = arm(s, x, e);
+        let timer = e.timer;
+        let kept = s.kept;
+        let k = place_named(x);
+        let old = s.armings[k];
+        s.armings[k] = arming_after(x, e.mode, old);
+        s.kept = kept_for(x, timer, kept);
         i += 1;
     }
     s

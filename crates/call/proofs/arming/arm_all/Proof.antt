@@ -18,9 +18,13 @@ abbrev μ-loop : tie.MeasureT-loop
 
 loop-again : tie.Need-loop-again Inv-loop μ-loop
 loop-again c =
-    let p = c .before .before .before .before in
-    let a = p .before .before .args in
-    (omega arith, rw (c .arm .ensures, c .before .role-of .ensures, c .before .before .nth-entry .ensures) (arm-step (a .n) (p .loop .i) (a .t .now) (c .before .before .before .loop-test .taken) (p .loop .s) ∙ p .loop .inv .1))
+    let k = c .before .before .before in
+    let q = k .before .before .before in
+    let p = q .before .before .before in
+    let a = p .before .before .args in (
+      omega arith,
+      rw (c .kept-for .ensures, c .before .arming-after .ensures, k .place-named .ensures .0, q .role-of .ensures, q .before .nth-entry .ensures) (arm-step (a .n) (p .loop .i) (a .t .now) (q .before .before .loop-test .taken) (p .loop .s) ∙ p .loop .inv .1),
+    )
 
 returns : tie.Need-returns Inv-loop μ-loop
 returns c =
@@ -31,4 +35,4 @@ returns c =
 pub arm-all-spec : {M : Type 1} → statement M
 arm-all-spec =
     tie.close
-    (tie.spec Inv-loop μ-loop (λ c. (search needs, rw sub-zero)) (λ c κs. search needs) (λ c κs. search needs) (λ c κs. search needs) (λ c. search needs) (λ c. omega arith) loop-again returns)
+    (tie.spec Inv-loop μ-loop (λ c. (search needs, rw sub-zero)) (λ c κs. search needs) (λ c κs. search needs) (λ c κs. search needs) (λ c. omega arith) (λ c κs. search needs) (λ c. omega arith) (λ c κs. search needs) (λ c. search needs) (λ c. omega arith) loop-again returns)
