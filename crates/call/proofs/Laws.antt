@@ -1,7 +1,7 @@
 -- Laws of tests and of the loops, for the proofs of the functions and for the theorems.
 use Prim.Native.Nat.{ℕ, zero, suc, _+_, _-_, _*_, _≤_, _<_}
 use mathlib.Core.Path.{_≡_, refl, sym, ap}
-use mathlib.Core.Bool.{Bool, true, false, cond, _&&_, _||_, and-true, and-assoc, or-false}
+use mathlib.Core.Bool.{Bool, true, false, cond, _&&_, _||_, and-true, and-assoc, or-false, false≢true}
 use mathlib.Core.List.{List, [], _∷_, _++_}
 use native.Mathlib.Numerals.{add-one}
 use native.Mathlib.Nat.{sub-eq-zero-of-le}
@@ -134,7 +134,7 @@ places-end c l i ok h = rw (drop-of-length-le l h, and-true)
 
 -- a good entry names a role, so the store is at the role's place
 see-named : (x : Named) (seen : List Bool) (e : Entry) → isGood x seen e ≡ true → set seen (placeNamed x) true ≡ seenAfter x seen
-see-named Unknown seen e g = absurd (let z : _≡_ {A = ℕ} 0 1 = cc in omega arith)
+see-named Unknown seen e g = absurd (false≢true g)
 see-named (Known p) seen e g = refl
 
 -- the record after one entry's stores: where no role is named, they store what was there
