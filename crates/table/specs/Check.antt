@@ -1,27 +1,34 @@
--- 'One call twice' over the owners' numbers, which are collected once: `Table.once`, as the code finds it out.
-use Prim.Native.Nat.{ℕ, _+_}
+-- 'One call twice' over the calls that own entries, which are collected once: `Table.once`, as the code finds it out.
+use Prim.Native.Nat.{ℕ}
 use mathlib.Core.Bool.{Bool, true, false, cond, _||_}
-use mathlib.Core.List.{List, [], _∷_, map}
+use mathlib.Core.List.{List, [], _∷_}
 use mathlib.Core.Option.{Option, none, some}
 use lib.Dec.{eqb}
 use Rattle.table.specs.Types.{Entry}
 use Rattle.table.specs.Entry.{ownerOf}
 
--- an owner as a number: 0 for none, and one more than the call's number
-abbrev pub numberOf : Option ℕ → ℕ
-numberOf none = 0
-numberOf (some k) = k + 1
+-- the calls that own entries, in the entries' order
+abbrev pub consCall : Option ℕ → List ℕ → List ℕ
+consCall none l = l
+consCall (some k) l = k ∷ l
 
-abbrev pub numbers : List Entry → List ℕ
-numbers t = map (λ e. numberOf (ownerOf (e .owner))) t
+unfoldable pub calls : List Entry → List ℕ
+calls [] = []
+calls (e ∷ t) = consCall (ownerOf (e .owner)) (calls t)
+
+-- the call that an owner is, 0 where it is none; and how many calls it is
+abbrev pub callOf : Option ℕ → ℕ
+callOf none = 0
+callOf (some k) = k
+
+abbrev pub countOf : Option ℕ → ℕ
+countOf none = 0
+countOf (some k) = 1
 
 unfoldable pub among : ℕ → List ℕ → Bool
 among k [] = false
 among k (n ∷ l) = eqb n k || among k l
 
-unfoldable pub repeats : ℕ → List ℕ → Bool
-repeats k l = cond (eqb k 0) false (among k l)
-
 unfoldable pub isOnce : List ℕ → Bool
 isOnce [] = true
-isOnce (k ∷ l) = cond (repeats k l) false (isOnce l)
+isOnce (k ∷ l) = cond (among k l) false (isOnce l)

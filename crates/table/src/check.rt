@@ -5,32 +5,31 @@ ghost use lib.ListN.{drop};
 ghost use Rattle.table.specs.Table.{isSoundSlot};
 ghost use Rattle.table.specs.Entry.{ourSlots, ownerOf};
 ghost use Rattle.table.specs.Feed.{isSoundTable};
-ghost use Rattle.table.specs.Check.{numberOf, repeats, isOnce};
+ghost use Rattle.table.specs.Check.{callOf, countOf, among, isOnce};
 use crate::entry::Entry;
 use crate::entry::Owner;
 use call::range;
 
-fn wide(k: u32) -> u64
-    ensures { λ n. ⌜ (n ≡ k) × (n ≤ 4294967295) ⌝ }
+// The call that owns the entry, 0 where it is free.
+fn call_of(e: Entry) -> u32
+    ensures { λ n. ⌜ n ≡ callOf (ownerOf (e .owner)) ⌝ }
 {
-    k as u64
-}
-
-// An owner as a number: 0 for none, and one more than the call's number.
-fn owner_number(o: Owner) -> u64
-    ensures { λ n. ⌜ n ≡ numberOf (ownerOf o) ⌝ }
-{
+    let o = e.owner;
     match o {
         Owner::Free => 0,
-        Owner::Call(k) => wide(k) + 1,
+        Owner::Call(k) => k,
     }
 }
 
-fn number(e: Entry) -> u64
-    ensures { λ n. ⌜ n ≡ numberOf (ownerOf (e .owner)) ⌝ }
+// How many calls own the entry.
+fn count_of(e: Entry) -> usize
+    ensures { λ n. ⌜ (n ≡ countOf (ownerOf (e .owner))) × (n ≤ 1) ⌝ }
 {
     let o = e.owner;
-    owner_number(o)
+    match o {
+        Owner::Free => 0,
+        Owner::Call(_) => 1,
+    }
 }
 
 // A free record is blank, an owned one in range.
@@ -45,13 +44,10 @@ fn is_sound_entry(e: Entry) -> bool
     }
 }
 
-// The number k, unless it is 0 (no call), stands among those from place `from` on.
-fn is_repeated(l: &[u64], from: usize, k: u64) -> bool
-    ensures { λ b. ⌜ b ≡ repeats k (drop from (now (l .entry))) ⌝ }
+// The call k stands among those from place `from` on.
+fn is_repeated(l: &[u32], from: usize, k: u32) -> bool
+    ensures { λ b. ⌜ b ≡ among k (drop from (now (l .entry))) ⌝ }
 {
-    if k == 0 {
-        return false;
-    }
     let mut hit = false;
     let mut i = from;
     while i < l.len() {
@@ -62,7 +58,7 @@ fn is_repeated(l: &[u64], from: usize, k: u64) -> bool
 }
 
 // No call twice.
-fn is_once(l: &[u64]) -> bool
+fn is_once(l: &[u32]) -> bool
     ensures { λ b. ⌜ b ≡ isOnce (now (l .entry)) ⌝ }
 {
     let mut i = 0;
@@ -76,21 +72,23 @@ fn is_once(l: &[u64]) -> bool
     true
 }
 
-// 64 records, each sound, and no call twice: one pass, which collects the owners.
+// 64 records, each sound, and no call twice: one pass, which collects the calls, n so far. What a free entry stores is overwritten.
 pub fn is_sound(table: &[Entry]) -> bool
     ensures { λ b. ⌜ b ≡ isSoundTable (now (table .entry)) ⌝ }
 {
     if table.len() != 64 {
         return false;
     }
-    let mut owners = [0u64; 64];
+    let mut calls = [0u32; 64];
+    let mut n = 0;
     let mut ok = true;
     let mut i = 0;
     while i < 64 {
         let e = table[i];
-        owners[i] = number(e);
+        calls[n] = call_of(e);
+        n += count_of(e);
         ok = ok & is_sound_entry(e);
         i += 1;
     }
-    ok & is_once(&owners)
+    ok & is_once(&calls[..n])
 }
