@@ -32,6 +32,7 @@ use Rattle.call.specs.Operations.{routed, continued, dropped, isRelease,
 use Rattle.call.specs.Refusals.{row1Time, rowsOf}
 use Rattle.call.specs.Range.{recordInRange}
 use Rattle.call.specs.Step.{kindOf, served, respondOf, stepOf}
+use Rattle.call.proofs.Laws.{on-cond}
 
 -- ---- relationship
 
@@ -257,8 +258,7 @@ Remains r s = RemainsBy r (s .answer) (s .next)
 
 module _ (r : Record) where
   either : (b : Bool) (x y : Stepped) → Remains r x → Remains r y → Remains r (cond b x y)
-  either true x y h g = h
-  either false x y h g = g
+  either = on-cond (Remains r)
 
   continued-remains : (s : Record) (t : Tenths) → Remains r (continued s t)
   unfolding continued

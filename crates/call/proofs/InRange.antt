@@ -40,7 +40,7 @@ use Rattle.call.specs.Refusals.{row1, row1Time, row2, row3, row7, rowsOf
 use Rattle.call.specs.Range.{chargeInRange, holdInRange, placesInRange, numberInRange, recordInRange}
 use Rattle.call.specs.Step.{kindOf, served, respondOf, stepOf}
 use Rattle.call.specs.Setup.{opened, begun, openAs, openOf}
-use Rattle.call.proofs.Laws.{passes, no-row}
+use Rattle.call.proofs.Laws.{on-cond, passes, no-row}
 
 -- ---- tests in a row
 
@@ -281,8 +281,7 @@ goes : (next : Record) (t : Tenths) → Fits next → next .last ≡ t → (reco
 goes next t f e = rw (in-range next f, eq-eqb (next .last .0) (t .0) (ap (λ (x : Tenths). x .0) e))
 
 either : (b : Bool) (x y : Stepped) (t : Tenths) → isLeftWell t x ≡ true → isLeftWell t y ≡ true → isLeftWell t (cond b x y) ≡ true
-either true x y t h g = h
-either false x y t h g = g
+either b x y t = on-cond (λ s. isLeftWell t s ≡ true) b x y
 
 guarded-left : (c : Check) (r : Record) (s : Stepped) (t : Tenths) → (c ≡ Pass → isLeftWell t s ≡ true) → isLeftWell t (guarded c r s) ≡ true
 guarded-left Pass r s t h = h refl

@@ -29,6 +29,12 @@ use Rattle.call.specs.Answers.{Row, row, firstOf}
 use Rattle.call.specs.Arming.{entriesOf, named, isGood, placeNamed, seenAfter, areGood, isPossible, arePossible, armingAfter, keptFor, armedBy, armedWith}
 use Rattle.call.specs.Range.{placesInRange}
 
+-- ---- what holds of both holds of whichever is taken
+
+pub on-cond : {A : Type 0} (P : A → Type 0) (b : Bool) (x y : A) → P x → P y → P (cond b x y)
+on-cond P true x y h g = h
+on-cond P false x y h g = g
+
 -- ---- numbers
 
 pub same-tenths : {m n : ℕ} → m ≡ n → _≡_ {A = Tenths} (record { 0 = m }) (record { 0 = n })

@@ -132,7 +132,7 @@ pub(crate) fn end(r: Record, event: Report, t: Tenths) -> Stepped
     Stepped { answer, next }
 }
 
-pub(crate) fn refuse(r: Record, n: u8) -> Stepped
+pub fn refuse(r: Record, n: u8) -> Stepped
     ensures { λ s. ⌜ s ≡ refused r n ⌝ }
 {
     let answer = Answer::Refused(n);

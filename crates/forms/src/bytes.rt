@@ -40,7 +40,7 @@ pub fn number2(s: &[u8]) -> usize
     size(at(s, 0)) * 256 + size(at(s, 1))
 }
 
-pub(crate) fn number4(s: &[u8]) -> usize
+pub fn number4(s: &[u8]) -> usize
     ensures { λ r. ⌜ (r ≡ fromBytes 4 (now (s .entry))) × (r < 4294967296) ⌝ }
 {
     size(at(s, 0)) * 16777216 + size(at(s, 1)) * 65536 + size(at(s, 2)) * 256 + size(at(s, 3))

@@ -124,7 +124,7 @@ fn long_field(kind: u8, a: u8, n: u64, in_range: bool) -> Fixed
     row(kind, 5, bytes, in_range, Rest::Nothing)
 }
 
-fn leg_number(leg: Leg) -> u8
+pub fn leg_number(leg: Leg) -> u8
     ensures { λ r. ⌜ r ≡ legNumber leg ⌝ }
 {
     match leg {

@@ -24,9 +24,9 @@ isOf owner.Free = isFree ourSlots
 isOf (owner.Call k) = owns ourSlots k
 
 -- the place that was found; 64, behind the last entry, where there is none
-abbrev pub placeIn : Option ℕ → ℕ
-placeIn none = 64
-placeIn (some i) = i
+abbrev pub placeFound : Option ℕ → ℕ
+placeFound none = 64
+placeFound (some i) = i
 
 -- the place of the entry that is looked at; where there is none, the first, which then stays as it is
 abbrev pub placeOf : Spot → ℕ

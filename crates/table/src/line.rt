@@ -11,7 +11,7 @@ use call::answers::*;
 use call::points;
 use call::points::Role;
 use call::record::Hold;
-use forms::item::Leg;
+use forms::item;
 
 // No line has more bytes.
 pub const LONGEST: usize = 128;
@@ -100,15 +100,6 @@ fn put_hold(out: &mut [u8], at: usize, h: Hold) -> usize
     }
 }
 
-fn leg_number(leg: Leg) -> u8
-    ensures { λ r. ⌜ r ≡ legNumber leg ⌝ }
-{
-    match leg {
-        Leg::One => 1,
-        Leg::Two => 2,
-    }
-}
-
 // The mark of a report, and the met point with its leg.
 fn put_met(out: &mut [u8], at: usize, mark: &[u8], p: Role) -> usize
     requires { ⌜ at + (length (now mark) + 7) ≤ length (now out) ⌝ }
@@ -119,7 +110,7 @@ fn put_met(out: &mut [u8], at: usize, mark: &[u8], p: Role) -> usize
     let a = put(out, at, mark);
     let b = put_small(out, a, row.number);
     let c = put(out, b, b"/");
-    put_small(out, c, leg_number(leg))
+    put_small(out, c, item::leg_number(leg))
 }
 
 fn put_report(out: &mut [u8], at: usize, report: Report) -> usize

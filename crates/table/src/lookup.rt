@@ -3,7 +3,7 @@ ghost use mathlib.Core.Path.{_≡_};
 ghost use lib.ListN.{length};
 ghost use Rattle.table.specs.Table.{find, isNone, isCall};
 ghost use Rattle.table.specs.Entry.{ownerOf};
-ghost use Rattle.table.specs.Lookup.{locateOf, placeOf, isOf, placeIn};
+ghost use Rattle.table.specs.Lookup.{locateOf, placeOf, isOf, placeFound};
 use crate::entry::Entry;
 use crate::entry::Owner;
 
@@ -46,7 +46,7 @@ pub(crate) fn is_of(wanted: Owner, e: Entry) -> bool
 // The place of the first entry that has the owner; 64 where none has.
 pub(crate) fn first_of(table: &[Entry], wanted: Owner) -> usize
     requires { ⌜ length (now table) ≡ 64 ⌝ }
-    ensures { λ i. ⌜ i ≡ placeIn (find (isOf wanted) (now (table .entry))) ⌝ }
+    ensures { λ i. ⌜ i ≡ placeFound (find (isOf wanted) (now (table .entry))) ⌝ }
 {
     let mut i = 0;
     while i < 64 {

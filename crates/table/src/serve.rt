@@ -3,11 +3,11 @@ ghost use mathlib.Core.Path.{_≡_};
 ghost use mathlib.Core.Bool.{cond, _&&_};
 ghost use lib.Dec.{eqb};
 ghost use Rattle.forms.specs.Item.{formOf};
-ghost use Rattle.call.specs.Answers.{refused};
 ghost use Rattle.table.specs.Serve.{denied, openedAs, setUp, met, actedOn, actedOf, ownerAfter, entryAfter, isRefused, damagedOf};
 use crate::entry::Entry;
 use crate::entry::Owner;
 use crate::lookup::Spot;
+use call::answers;
 use call::answers::*;
 use call::record::Record;
 use call::setup;
@@ -27,21 +27,13 @@ fn is_setup(body: Body) -> bool
     }
 }
 
-// A refusal leaves the record.
-fn refuse(r: Record, n: u8) -> Stepped
-    ensures { λ s. ⌜ s ≡ refused r n ⌝ }
-{
-    let answer = Answer::Refused(n);
-    Stepped { answer, next: r }
-}
-
 // A Setup that can open no call: the refusal that comes before, else n.
 fn deny(r: Record, answer: Answer, n: u8) -> Stepped
     ensures { λ s. ⌜ s ≡ denied r answer n ⌝ }
 {
     match answer {
-        Answer::Accepted(o) => refuse(r, n),
-        Answer::Refused(m) => refuse(r, m),
+        Answer::Accepted(o) => answers::refuse(r, n),
+        Answer::Refused(m) => answers::refuse(r, m),
     }
 }
 
@@ -51,7 +43,7 @@ fn open(r: Record, answer: Answer, next: Record) -> Stepped
 {
     match answer {
         Answer::Accepted(o) => Stepped { answer, next },
-        Answer::Refused(n) => refuse(r, n),
+        Answer::Refused(n) => answers::refuse(r, n),
     }
 }
 
@@ -73,8 +65,8 @@ fn meet(r: Record, s: Spot, i: Item, rest: &[u8]) -> Stepped
     ensures { λ q. ⌜ q ≡ met s r i (now (rest .entry)) ⌝ }
 {
     match s {
-        Spot::Nowhere => refuse(r, 4),
-        Spot::Free(_) => refuse(r, 4),
+        Spot::Nowhere => answers::refuse(r, 4),
+        Spot::Free(_) => answers::refuse(r, 4),
         Spot::Own(_) => step::respond(r, i, rest),
     }
 }
@@ -99,7 +91,7 @@ pub(crate) fn act(e: Entry, s: Spot, bytes: &[u8], profile: &[u8]) -> Stepped
     let read = item::read_item(bytes);
     match read {
         ReadItem::Item(i, at) => act_on(r, s, i, bytes::from(bytes, at), profile),
-        ReadItem::Refused(n) => refuse(r, n),
+        ReadItem::Refused(n) => answers::refuse(r, n),
     }
 }
 

@@ -15,15 +15,12 @@ use table::entry::Owner;
 pub const SIZE: usize = 87;
 
 fn number4(s: &[u8], at: usize) -> u32 {
-    let high = bytes::number2(bytes::part_of(s, at, 2)) as u32;
-    let low = bytes::number2(bytes::part_of(bytes::from(s, at), 2, 2)) as u32;
-    high * 65536 + low
+    bytes::number4(bytes::from(s, at)) as u32
 }
 
 fn number8(s: &[u8], at: usize) -> u64 {
-    let high = number4(s, at) as u64;
-    let low = number4(bytes::from(s, at), 4) as u64;
-    high * 4294967296 + low
+    let t = bytes::from(s, at);
+    (bytes::number4(t) * 4294967296 + bytes::number4(bytes::from(t, 4))) as u64
 }
 
 fn owner_at(s: &[u8]) -> Owner {
@@ -268,7 +265,8 @@ fn hold_number(hold: Hold) -> u8 {
     }
 }
 
-fn mode_number(mode: Mode) -> u8 {
+fn mode_number(a: Arming) -> u8 {
+    let mode = a.mode;
     match mode {
         Mode::None => 0,
         Mode::Interrupted => 1,
@@ -276,14 +274,19 @@ fn mode_number(mode: Mode) -> u8 {
     }
 }
 
-fn put_armings(d: &mut [u8], armings: [Arming; 10]) {
-    let mut i = 0;
-    while i < 10 {
-        let arming = armings[i];
-        let mode = arming.mode;
-        put(d, 51 + i, mode_number(mode));
-        i += 1;
-    }
+fn mode_numbers(a: [Arming; 10]) -> [u8; 10] {
+    [
+        mode_number(a[0]),
+        mode_number(a[1]),
+        mode_number(a[2]),
+        mode_number(a[3]),
+        mode_number(a[4]),
+        mode_number(a[5]),
+        mode_number(a[6]),
+        mode_number(a[7]),
+        mode_number(a[8]),
+        mode_number(a[9]),
+    ]
 }
 
 fn handling_number(handling: Handling) -> u8 {
@@ -319,7 +322,8 @@ fn put_settings(d: &mut [u8], r: Record) {
     let timer = r.timer;
     let handling = r.handling;
     let number = r.number;
-    put_armings(d, armings);
+    let modes = mode_numbers(armings);
+    put_bytes(d, 51, &modes);
     put4(d, 61, kept.0);
     put4(d, 65, timer.0);
     put(d, 69, handling_number(handling));
