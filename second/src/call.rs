@@ -240,7 +240,8 @@ fn meet(record: &mut Record, point: Point, answer: &mut Accepted) {
     record.hold = interrupted.then_some(point);
 }
 
-/// The paper's table of what a met point disarms.
+/// Document 01's table of what a met point disarms, its row of 7 as T-01 of
+/// document 02 has it.
 fn disarms(met: Point, point: Point) -> bool {
     match met {
         Point::RouteFailure | Point::Busy | Point::NoAnswer | Point::Disconnect2 => {
@@ -248,7 +249,12 @@ fn disarms(met: Point, point: Point) -> bool {
         }
         Point::Answer => matches!(
             point,
-            Point::RouteFailure | Point::Busy | Point::NoAnswer | Point::Answer | Point::Abandon
+            Point::RouteFailure
+                | Point::Busy
+                | Point::NoAnswer
+                | Point::Answer
+                | Point::Abandon
+                | Point::Seized
         ),
         Point::MidCall | Point::Seized | Point::Moved => point == met,
         Point::Abandon | Point::Disconnect1 => point.leg() == Leg::One,

@@ -1,9 +1,10 @@
 //! The second program: the commands.
 //!
-//! It is written from document 01 alone, in the most direct way, and run
-//! beside the proved program: where the two differ, the paper decides.
+//! It is written from the papers alone (document 01, and document 02's requests
+//! as they land), in the most direct way, and run beside the proved program:
+//! where the two differ, the papers decide.
 
-// What document 01 says.
+// What the papers say.
 mod answer;
 mod call;
 mod forms;
@@ -32,8 +33,8 @@ use std::io::{self, BufReader, Read, Write};
 use std::process::ExitCode;
 
 const USAGE: &str = "\
-second: the second program, written from document 01 alone, to be run beside
-the proved one. Usage:
+second: the second program, written from the papers alone, to be run beside the
+proved one. Usage:
 
 The program of document 01
   second listing < BYTES         reads a profile and items, and lists an answer

@@ -1,4 +1,4 @@
--- Laws of one call, for a reader: what having no relationship means, charges and their clocks, what a lost leg disarms, the order of the refusals, the kept timer.
+-- Laws of one call, for a reader: what having no relationship means, charges and their clocks, what a lost leg disarms, what an Answer leaves armed, the order of the refusals, the kept timer.
 use Prim.Native.Nat.{ℕ, zero, suc, _≤_}
 use mathlib.Core.Path.{_≡_, refl, sym, ap, _∙_}
 use mathlib.Core.Logic.{_↔_}
@@ -6,28 +6,31 @@ use mathlib.Core.Bool.{Bool, true, false, not, cond, Bool·beq, _&&_, _||_, and-
 use mathlib.Core.List.{List, [], _∷_}
 use native.Mathlib.Omega.{arith}
 use lib.Dec.{ltb, eqb}
-use lib.ListN.{getD, set}
+use lib.ListN.{length, getD, set, length-set}
 use lib.Seq.{getD-set-other}
 use borrow.Author.Tests.{eqb-true, eqb-false}
 use Rattle.forms.specs.Fields.{legNumber}
 use Rattle.forms.specs.Item.{itemInRange}
 use Rattle.forms.proofs.ByteLaws.{and-left, and-right}
-use Rattle.call.specs.Types.{Item, Tenths, Leg, Role, Stage, Mode, Charge, LegState, Arming, Record, Relationship, ChargeReport, Answer, Stepped, Check, Kind}
+use Rattle.call.specs.Types.{Item, Tenths, Leg, Role, Stage, Mode, Charge, LegState, Arming, Record, Relationship, ChargeReport, Reports, Deadline, Outcome, Answer, Stepped, Check, Kind}
 use Rattle.forms.specs.declared.item.Leg.the-variants.{One, Two}
+use Rattle.forms.specs.declared.item.Body.the-variants as body
 use Rattle.call.specs.declared.points.Role.the-variants as role
+use Rattle.call.specs.declared.record.Stage.the-variants.{Active}
 use Rattle.call.specs.declared.record.Mode.the-variants as mode
 use Rattle.call.specs.declared.record.Charge.the-variants as charge
 use Rattle.call.specs.declared.answers.Relationship.the-variants as relationship
 use Rattle.call.specs.declared.answers.ChargeReport.the-variants as report
+use Rattle.call.specs.declared.answers.Deadline.the-variants as deadline
 use Rattle.call.specs.declared.answers.Answer.the-variants.{Accepted, Refused}
 use Rattle.call.specs.declared.answers.Check.the-variants.{Pass, Fail}
 use Rattle.call.specs.declared.step.Kind.the-variants as kind
-use Rattle.call.specs.Points.{roles, placeOf, isRole, legOf, isOnLeg, isActive, losesLeg, disarms, unarmed, modeAt, disarmed}
+use Rattle.call.specs.Points.{roles, placeOf, isRole, legOf, isOnLeg, isActive, metIn, losesLeg, disarms, unarmed, modeAt, disarmed}
 use Rattle.call.specs.Charging.{isPresent, isPending, isStarted, answered, granted, reportOf}
 use Rattle.call.specs.Relationship.{isMode, someArmed, isHeld, isTrigger, relationshipOf, isRelated}
 use Rattle.call.specs.Record.{blank, noTimer, legAt}
-use Rattle.call.specs.Answers.{Row, firstOf, guarded}
-use Rattle.call.specs.Events.{leaves, legAfter, endsCall, met}
+use Rattle.call.specs.Answers.{Row, firstOf, reports, goesOn, guarded}
+use Rattle.call.specs.Events.{eventReport, leaves, holdAfter, legAfter, endsCall, metRecord, met}
 use Rattle.call.specs.Operations.{routed, continued, dropped, isRelease, aborted, chargeApplied}
 use Rattle.call.specs.Refusals.{row1Time, rowsOf}
 use Rattle.call.specs.Range.{recordInRange}
@@ -178,6 +181,36 @@ every-at f d k (p ∷ ps) (suc n) h = every-at f d k ps n (and-right (f p) (ever
 pub every-role : (f : Role → Bool) → every f roles ≡ true → (p : Role) → f p ≡ true
 every-role f h p = rw (at-place p) at (every-at f role.MidCall (and-left (f role.MidCall) _ h) roles (placeOf p) h)
 
+every-same : (f g : Role → Bool) → ((p : Role) → f p ≡ g p) → (ps : List Role) → every f ps ≡ every g ps
+every-same f g h [] = refl
+every-same f g h (p ∷ ps) = rw (h p, every-same f g h ps)
+
+-- two tests that agree on the ten agree on every role
+agree : (f g : Role → Bool) → every (λ q. Bool·beq (f q) (g q)) roles ≡ true → (p : Role) → f p ≡ g p
+agree f g h p = same (f p) (g p) (every-role (λ q. Bool·beq (f q) (g q)) h p)
+  where
+    same : (a b : Bool) → Bool·beq a b ≡ true → a ≡ b
+    same true true h = refl
+    same true false h = sym h
+    same false true h = h
+    same false false h = refl
+
+-- the test f holds of each place below n
+abbrev below : ℕ → (ℕ → Bool) → Bool
+below zero f = true
+below (suc n) f = f zero && below n (λ i. f (suc i))
+
+unarmed-below : (n : ℕ) (a : List Arming) → length a ≤ n → nothingArmed a ≡ below n (λ i. isMode (getD a i unarmed .mode) mode.None)
+unfolding nothingArmed
+unarmed-below zero [] h = refl
+unarmed-below zero (x ∷ a) h = absurd (omega arith)
+unarmed-below (suc n) [] h = unarmed-below n [] (omega arith)
+unarmed-below (suc n) (x ∷ a) h = ap (λ b. isMode (x .mode) mode.None && b) (unarmed-below n a (omega arith))
+
+-- so with the ten roles, one for each arming
+unarmed-roles : (a : List Arming) → length a ≡ 10 → nothingArmed a ≡ every (λ p. isMode (modeAt p a) mode.None) roles
+unarmed-roles a ten = unarmed-below 10 a (omega (arith, ten))
+
 -- ---- a lost leg
 
 -- the role q is one of ps
@@ -209,19 +242,16 @@ disarm-these (p ∷ ps) q a =
     go true false = refl
     go false there = refl
 
+disarmed-length : (ps : List Role) (a : List Arming) → length (disarmed ps a) ≡ length a
+disarmed-length [] a = refl
+disarmed-length (p ∷ ps) a = disarmed-length ps (set a (placeOf p) unarmed) ∙ length-set a (placeOf p) unarmed
+
 -- a role that loses its leg disarms the roles of that leg: a test of all pairs of roles
 own-leg : (p q : Role) → losesLeg p ≡ true → isAmong q (disarms p) ≡ isOnLeg q (legOf p)
-own-leg p q h = go (losesLeg p) (isAmong q (disarms p)) (isOnLeg q (legOf p)) h (every-role (test p) (every-role (λ x. every (test x) roles) refl p) q)
+own-leg p q h = agree (λ y. isAmong y (disarms p)) (λ y. isOnLeg y (legOf p)) (rw h at (every-role test refl p)) q
   where
-    test : Role → Role → Bool
-    test x y = not (losesLeg x) || Bool·beq (isAmong y (disarms x)) (isOnLeg y (legOf x))
-
-    go : (l a b : Bool) → l ≡ true → (not l || Bool·beq a b) ≡ true → a ≡ b
-    go true true true h k = refl
-    go true true false h k = sym k
-    go true false true h k = k
-    go true false false h k = refl
-    go false a b h k = absurd (false≢true h)
+    test : Role → Bool
+    test x = not (losesLeg x) || every (λ y. Bool·beq (isAmong y (disarms x)) (isOnLeg y (legOf x))) roles
 
 -- Busy and the others that lose a leg disarm that leg's points and leave every point of the other
 pub lost-leg : (p q : Role) (a : List Arming) → losesLeg p ≡ true → modeAt q (disarmed (disarms p) a) ≡ cond (isOnLeg q (legOf p)) mode.None (modeAt q a)
@@ -246,6 +276,88 @@ lost-leg-met r p q t h k = ap (λ s. modeAt q (s .next .armings)) (goes-on (ends
 pub busy-spares-caller : (r : Record) (q : Role) (t : Tenths) → legOf q ≡ One → isOver (met r role.Busy t .answer) ≡ false
     → modeAt q (met r role.Busy t .next .armings) ≡ modeAt q (r .armings)
 busy-spares-caller r q t e h = lost-leg-met r role.Busy q t refl h ∙ ap (λ l. cond (eqb (legNumber l) 2) mode.None (modeAt q (r .armings))) e
+
+-- ---- an answered call (T-01)
+
+-- once the call is active the role cannot be met
+abbrev pub isPast : Role → Bool
+isPast q = not (metIn q Active)
+
+-- these are what Answer disarms: 4, 5, 6, 7, 10 and 19
+pub answer-row : (q : Role) → isAmong q (disarms role.Answer) ≡ isPast q
+answer-row = agree (λ q. isAmong q (disarms role.Answer)) isPast refl
+
+-- Answer does not end the call
+answer-goes-on : (m : Mode) → endsCall role.Answer m ≡ false
+answer-goes-on mode.None = refl
+answer-goes-on mode.Interrupted = refl
+answer-goes-on mode.Notify = refl
+
+-- a pending charge stays pending
+answered-pending : (t : Tenths) (c : Charge) → isPending (answered t c) ≡ isPending c
+answered-pending t charge.None = refl
+answered-pending t (charge.Waiting period) = refl
+answered-pending t (charge.Running period start) = refl
+
+-- "The call is held exactly if the mode was 0"
+held-exactly : (p : Role) (m : Mode) → isHeld (holdAfter p m) ≡ isMode m mode.Interrupted
+held-exactly p mode.None = refl
+held-exactly p mode.Interrupted = refl
+held-exactly p mode.Notify = refl
+
+-- an accepted item is answered as it is served
+as-served : (c : Check) (r : Record) (s : Stepped) (o : Outcome) → guarded c r s .answer ≡ Accepted o → guarded c r s ≡ s
+as-served Pass r s o h = refl
+as-served (Fail n) r s o h = absurd (let z : _≡_ {A = ℕ} 0 1 = cc in omega arith)
+
+-- where the call goes on, the answer's relationship is the next record's
+goes-related : (s : Stepped) (next : Record) (q : Reports) (d : Deadline) (o : Outcome) → s ≡ goesOn next q d → s .answer ≡ Accepted o → o .relationship ≡ relationshipOf (s .next)
+goes-related s next q d o e h = cc
+
+-- Answer is not armed in mode 0, nothing is armed that an active call can meet, no charge is pending
+abbrev pub isIdleOnceAnswered : Record → Bool
+isIdleOnceAnswered r =
+    not (isMode (modeAt role.Answer (r .armings)) mode.Interrupted) && every (λ q. isPast q || isMode (modeAt q (r .armings)) mode.None) roles
+    && not (isPending (r .leg1 .charge)) && not (isPending (r .leg2 .charge))
+
+-- the item i is an Answer, accepted with the outcome o
+module _ (r : Record) (i : Item) (rest : List ℕ) (o : Outcome) (is-answer : i .body ≡ body.Answer) (accepted : respondOf r i rest .answer ≡ Accepted o) where
+  abbrev m : Mode
+  m = modeAt role.Answer (r .armings)
+
+  abbrev next : Record
+  next = respondOf r i rest .next
+
+  answer-met : respondOf r i rest ≡ goesOn (metRecord r role.Answer m (i .time)) (reports (eventReport role.Answer m) report.None report.None) deadline.None
+  unfolding respondOf met
+  answer-met =
+      let k = kindOf (i .body) (r .stage) in
+      as-served (firstOf (row1Time (i .time) ∷ rowsOf r k (i .time) rest)) r (served r k (i .time) rest) o accepted
+      ∙ ap (λ x. served r (kindOf x (r .stage)) (i .time) rest) is-answer
+      ∙ rw (answer-goes-on m)
+
+  next-met : next ≡ metRecord r role.Answer m (i .time)
+  next-met = ap (λ s. s .next) answer-met
+
+  -- nothing is armed that an active call cannot meet; the rest is armed as it was
+  pub answered-armings : (q : Role) → modeAt q (next .armings) ≡ cond (isPast q) mode.None (modeAt q (r .armings))
+  answered-armings q = rw (next-met, disarm-these (disarms role.Answer) q (r .armings), answer-row q)
+
+  idle-answered : length (r .armings) ≡ 10 → isIdle next ≡ isIdleOnceAnswered r
+  idle-answered ten = rw (unarmed, next-met, held-exactly role.Answer m, answered-pending (i .time) (r .leg1 .charge), answered-pending (i .time) (r .leg2 .charge))
+    where
+      wiped : (past : Bool) (n : Mode) → isMode (cond past mode.None n) mode.None ≡ (past || isMode n mode.None)
+      wiped true n = refl
+      wiped false n = refl
+
+      unarmed : nothingArmed (next .armings) ≡ every (λ q. isPast q || isMode (modeAt q (r .armings)) mode.None) roles
+      unarmed =
+          unarmed-roles (next .armings) (ap (λ s. length (s .armings)) next-met ∙ disarmed-length (disarms role.Answer) (r .armings) ∙ ten)
+          ∙ every-same _ _ (λ q. ap (λ n. isMode n mode.None) (answered-armings q) ∙ wiped (isPast q) (modeAt q (r .armings))) roles
+
+  -- so the relationship is none exactly if nothing but such points was armed, Answer not in mode 0, and no charge is pending (a record has ten armings)
+  pub answered-none : length (r .armings) ≡ 10 → (o .relationship ≡ relationship.None) ↔ (isIdleOnceAnswered r ≡ true)
+  answered-none ten = rw (goes-related (respondOf r i rest) _ _ _ o answer-met accepted, ← idle-answered ten) (none-exactly next)
 
 -- ---- what remains: "A refusal leaves what is kept", and a call that is over leaves a blank record
 

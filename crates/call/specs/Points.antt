@@ -103,13 +103,13 @@ abbrev pub onLeg : Leg → List Role → List Role
 onLeg l [] = []
 onLeg l (p ∷ ps) = cond (isOnLeg p l) (p ∷ onLeg l ps) (onLeg l ps)
 
--- the table 'met, disarms'
+-- the table 'met, disarms'; the row of 7 as T-01 (document 02) has it
 abbrev pub disarms : Role → List Role
 disarms RouteFailure = onLeg Two roles
 disarms Busy = onLeg Two roles
 disarms NoAnswer = onLeg Two roles
 disarms Disconnect2 = onLeg Two roles
-disarms Answer = RouteFailure ∷ Busy ∷ NoAnswer ∷ Answer ∷ Abandon ∷ []
+disarms Answer = RouteFailure ∷ Busy ∷ NoAnswer ∷ Answer ∷ Abandon ∷ Seized ∷ []
 disarms MidCall = MidCall ∷ []
 disarms Seized = Seized ∷ []
 disarms Moved = Moved ∷ []

@@ -222,7 +222,7 @@ fn without_leg2(a: [Arming; 10]) -> [Arming; 10]
     b
 }
 
-// Route failure, Busy, No answer and Answer, and Abandon.
+// Answer's row: 4, 5, 6, 7, 10 and 19.
 fn without_answered(a: [Arming; 10]) -> [Arming; 10]
     ensures { λ r. ⌜ r ≡ disarmed (disarms Role.Answer) a ⌝ }
 {
@@ -232,7 +232,8 @@ fn without_answered(a: [Arming; 10]) -> [Arming; 10]
     b[5] = u;
     b[6] = u;
     b[7] = u;
-    b[2] = u;
+    b[2] = u; // Abandon
+    b[9] = u; // Seized
     b
 }
 
