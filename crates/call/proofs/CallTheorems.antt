@@ -300,7 +300,7 @@ answered-pending t (charge.Waiting period) = refl
 answered-pending t (charge.Running period start) = refl
 
 -- "The call is held exactly if the mode was 0"
-held-exactly : (p : Role) (m : Mode) → isHeld (holdAfter p m) ≡ isMode m mode.Interrupted
+pub held-exactly : (p : Role) (m : Mode) → isHeld (holdAfter p m) ≡ isMode m mode.Interrupted
 held-exactly p mode.None = refl
 held-exactly p mode.Interrupted = refl
 held-exactly p mode.Notify = refl
