@@ -12,7 +12,7 @@ use borrow.Author.Tests.{eqb-true, eqb-false}
 use Rattle.forms.specs.Fields.{legNumber}
 use Rattle.forms.specs.Item.{itemInRange}
 use Rattle.forms.proofs.ByteLaws.{and-left, and-right}
-use Rattle.call.specs.Types.{Item, Tenths, Leg, Role, Stage, Mode, Charge, LegState, Arming, Record, Relationship, ChargeReport, Reports, Deadline, Outcome, Answer, Stepped, Check, Kind}
+use Rattle.call.specs.Types.{Item, Tenths, Leg, Role, Stage, Mode, Charge, LegState, Arming, Record, Relationship, ChargeReport, Answer, Stepped, Check, Kind}
 use Rattle.forms.specs.declared.item.Leg.the-variants.{One, Two}
 use Rattle.forms.specs.declared.item.Body.the-variants as body
 use Rattle.call.specs.declared.points.Role.the-variants as role
@@ -21,7 +21,6 @@ use Rattle.call.specs.declared.record.Mode.the-variants as mode
 use Rattle.call.specs.declared.record.Charge.the-variants as charge
 use Rattle.call.specs.declared.answers.Relationship.the-variants as relationship
 use Rattle.call.specs.declared.answers.ChargeReport.the-variants as report
-use Rattle.call.specs.declared.answers.Deadline.the-variants as deadline
 use Rattle.call.specs.declared.answers.Answer.the-variants.{Accepted, Refused}
 use Rattle.call.specs.declared.answers.Check.the-variants.{Pass, Fail}
 use Rattle.call.specs.declared.step.Kind.the-variants as kind
@@ -29,8 +28,8 @@ use Rattle.call.specs.Points.{roles, placeOf, isRole, legOf, isOnLeg, is
 use Rattle.call.specs.Charging.{isPresent, isPending, isStarted, answered, granted, reportOf}
 use Rattle.call.specs.Relationship.{isMode, someArmed, isHeld, isTrigger, relationshipOf, isRelated}
 use Rattle.call.specs.Record.{blank, noTimer, legAt}
-use Rattle.call.specs.Answers.{Row, firstOf, reports, goesOn, guarded}
-use Rattle.call.specs.Events.{eventReport, leaves, holdAfter, legAfter, endsCall, metRecord, met}
+use Rattle.call.specs.Answers.{Row, firstOf, guarded}
+use Rattle.call.specs.Events.{leaves, holdAfter, legAfter, endsCall, metRecord, met}
 use Rattle.call.specs.Operations.{routed, continued, dropped, isRelease, aborted, chargeApplied}
 use Rattle.call.specs.Refusals.{row1Time, rowsOf}
 use Rattle.call.specs.Range.{recordInRange}
@@ -149,6 +148,15 @@ rows-rise r (kind.ApplyCharging l period) t rest = refl
 rows-rise r kind.ActivityTest t rest = refl
 rows-rise r kind.Abort t rest = refl
 
+abbrev pub isAccepted : Answer → Bool
+isAccepted (Accepted o) = true
+isAccepted (Refused n) = false
+
+-- an accepted item passed the rows
+pub not-refused : (c : Check) (r : Record) (s : Stepped) → isAccepted (guarded c r s .answer) ≡ true → c ≡ Pass
+not-refused Pass r s h = refl
+not-refused (Fail n) r s h = absurd (false≢true h)
+
 -- ---- roles: the ten are all, so a test of the ten proves a rule for every role
 
 at-place : (p : Role) → getD roles (placeOf p) role.MidCall ≡ p
@@ -200,6 +208,7 @@ abbrev below : ℕ → (ℕ → Bool) → Bool
 below zero f = true
 below (suc n) f = f zero && below n (λ i. f (suc i))
 
+-- nothing is armed exactly if nothing is at the first n places, where there are no more
 unarmed-below : (n : ℕ) (a : List Arming) → length a ≤ n → nothingArmed a ≡ below n (λ i. isMode (getD a i unarmed .mode) mode.None)
 unfolding nothingArmed
 unarmed-below zero [] h = refl
@@ -277,6 +286,14 @@ pub busy-spares-caller : (r : Record) (q : Role) (t : Tenths) → legOf q ≡ On
     → modeAt q (met r role.Busy t .next .armings) ≡ modeAt q (r .armings)
 busy-spares-caller r q t e h = lost-leg-met r role.Busy q t refl h ∙ ap (λ l. cond (eqb (legNumber l) 2) mode.None (modeAt q (r .armings))) e
 
+-- ---- the hold
+
+-- "The call is held exactly if the mode was 0"
+pub held-exactly : (p : Role) (m : Mode) → isHeld (holdAfter p m) ≡ isMode m mode.Interrupted
+held-exactly p mode.None = refl
+held-exactly p mode.Interrupted = refl
+held-exactly p mode.Notify = refl
+
 -- ---- an answered call (T-01)
 
 -- once the call is active the role cannot be met
@@ -293,26 +310,11 @@ answer-goes-on mode.None = refl
 answer-goes-on mode.Interrupted = refl
 answer-goes-on mode.Notify = refl
 
--- a pending charge stays pending
+-- it makes no charge pending and removes none
 answered-pending : (t : Tenths) (c : Charge) → isPending (answered t c) ≡ isPending c
 answered-pending t charge.None = refl
 answered-pending t (charge.Waiting period) = refl
 answered-pending t (charge.Running period start) = refl
-
--- "The call is held exactly if the mode was 0"
-pub held-exactly : (p : Role) (m : Mode) → isHeld (holdAfter p m) ≡ isMode m mode.Interrupted
-held-exactly p mode.None = refl
-held-exactly p mode.Interrupted = refl
-held-exactly p mode.Notify = refl
-
--- an accepted item is answered as it is served
-as-served : (c : Check) (r : Record) (s : Stepped) (o : Outcome) → guarded c r s .answer ≡ Accepted o → guarded c r s ≡ s
-as-served Pass r s o h = refl
-as-served (Fail n) r s o h = absurd (let z : _≡_ {A = ℕ} 0 1 = cc in omega arith)
-
--- where the call goes on, the answer's relationship is the next record's
-goes-related : (s : Stepped) (next : Record) (q : Reports) (d : Deadline) (o : Outcome) → s ≡ goesOn next q d → s .answer ≡ Accepted o → o .relationship ≡ relationshipOf (s .next)
-goes-related s next q d o e h = cc
 
 -- Answer is not armed in mode 0, nothing is armed that an active call can meet, no charge is pending
 abbrev pub isIdleOnceAnswered : Record → Bool
@@ -320,44 +322,45 @@ isIdleOnceAnswered r =
     not (isMode (modeAt role.Answer (r .armings)) mode.Interrupted) && every (λ q. isPast q || isMode (modeAt q (r .armings)) mode.None) roles
     && not (isPending (r .leg1 .charge)) && not (isPending (r .leg2 .charge))
 
--- the item i is an Answer, accepted with the outcome o
-module _ (r : Record) (i : Item) (rest : List ℕ) (o : Outcome) (is-answer : i .body ≡ body.Answer) (accepted : respondOf r i rest .answer ≡ Accepted o) where
+-- the item i is an Answer, and accepted
+module _ (r : Record) (i : Item) (rest : List ℕ) (is-answer : i .body ≡ body.Answer) (accepted : isAccepted (respondOf r i rest .answer) ≡ true) where
   abbrev m : Mode
   m = modeAt role.Answer (r .armings)
 
   abbrev next : Record
   next = respondOf r i rest .next
 
-  answer-met : respondOf r i rest ≡ goesOn (metRecord r role.Answer m (i .time)) (reports (eventReport role.Answer m) report.None report.None) deadline.None
+  next-met : next ≡ metRecord r role.Answer m (i .time)
   unfolding respondOf met
-  answer-met =
+  next-met =
       let k = kindOf (i .body) (r .stage) in
-      as-served (firstOf (row1Time (i .time) ∷ rowsOf r k (i .time) rest)) r (served r k (i .time) rest) o accepted
-      ∙ ap (λ x. served r (kindOf x (r .stage)) (i .time) rest) is-answer
+      let rows = row1Time (i .time) ∷ rowsOf r k (i .time) rest in
+      ap (λ c. guarded c r (served r k (i .time) rest) .next) (not-refused (firstOf rows) r (served r k (i .time) rest) accepted)
+      ∙ ap (λ x. served r (kindOf x (r .stage)) (i .time) rest .next) is-answer
       ∙ rw (answer-goes-on m)
 
-  next-met : next ≡ metRecord r role.Answer m (i .time)
-  next-met = ap (λ s. s .next) answer-met
+  pub answered-active : next .stage ≡ Active
+  answered-active = ap (λ s. s .stage) next-met
 
   -- nothing is armed that an active call cannot meet; the rest is armed as it was
   pub answered-armings : (q : Role) → modeAt q (next .armings) ≡ cond (isPast q) mode.None (modeAt q (r .armings))
   answered-armings q = rw (next-met, disarm-these (disarms role.Answer) q (r .armings), answer-row q)
 
   idle-answered : length (r .armings) ≡ 10 → isIdle next ≡ isIdleOnceAnswered r
-  idle-answered ten = rw (unarmed, next-met, held-exactly role.Answer m, answered-pending (i .time) (r .leg1 .charge), answered-pending (i .time) (r .leg2 .charge))
+  idle-answered ten = rw (left, next-met, held-exactly role.Answer m, answered-pending (i .time) (r .leg1 .charge), answered-pending (i .time) (r .leg2 .charge))
     where
       wiped : (past : Bool) (n : Mode) → isMode (cond past mode.None n) mode.None ≡ (past || isMode n mode.None)
       wiped true n = refl
       wiped false n = refl
 
-      unarmed : nothingArmed (next .armings) ≡ every (λ q. isPast q || isMode (modeAt q (r .armings)) mode.None) roles
-      unarmed =
+      left : nothingArmed (next .armings) ≡ every (λ q. isPast q || isMode (modeAt q (r .armings)) mode.None) roles
+      left =
           unarmed-roles (next .armings) (ap (λ s. length (s .armings)) next-met ∙ disarmed-length (disarms role.Answer) (r .armings) ∙ ten)
           ∙ every-same _ _ (λ q. ap (λ n. isMode n mode.None) (answered-armings q) ∙ wiped (isPast q) (modeAt q (r .armings))) roles
 
-  -- so the relationship is none exactly if nothing but such points was armed, Answer not in mode 0, and no charge is pending (a record has ten armings)
-  pub answered-none : length (r .armings) ≡ 10 → (o .relationship ≡ relationship.None) ↔ (isIdleOnceAnswered r ≡ true)
-  answered-none ten = rw (goes-related (respondOf r i rest) _ _ _ o answer-met accepted, ← idle-answered ten) (none-exactly next)
+  -- so the relationship is none exactly then (a record has ten armings)
+  pub answered-none : length (r .armings) ≡ 10 → (relationshipOf next ≡ relationship.None) ↔ (isIdleOnceAnswered r ≡ true)
+  answered-none ten = rw (← idle-answered ten) (none-exactly next)
 
 -- ---- what remains: "A refusal leaves what is kept", and a call that is over leaves a blank record
 

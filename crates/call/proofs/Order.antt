@@ -12,12 +12,11 @@ use borrow.Author.Tests.{ltb-false, eqb-true, not-false}
 use Rattle.forms.specs.Fields.{legNumber}
 use Rattle.forms.specs.Units.{isTimer}
 use Rattle.forms.proofs.ByteLaws.{and-left, and-right}
-use Rattle.call.specs.Types.{Entry, Seconds, Tenths, Role, Named, Record, Answer, Check, Stepped}
+use Rattle.call.specs.Types.{Entry, Seconds, Tenths, Role, Named, Record, Stepped}
 use Rattle.forms.specs.declared.item.Body.the-variants as body
 use Rattle.call.specs.declared.points.Role.the-variants.{NoAnswer}
 use Rattle.call.specs.declared.points.Named.the-variants.{Unknown, Known}
-use Rattle.call.specs.declared.answers.Answer.the-variants.{Accepted, Refused}
-use Rattle.call.specs.declared.answers.Check.the-variants.{Pass, Fail}
+use Rattle.call.specs.declared.answers.Check.the-variants.{Pass}
 use Rattle.call.specs.declared.step.Kind.the-variants as kind
 use Rattle.call.specs.Points.{roles, placeOf, isRole, pointOf, legOf, roleIn}
 use Rattle.call.specs.Record.{timed, armedAs}
@@ -27,7 +26,7 @@ use Rattle.call.specs.Arming.{entriesOf, named, isModeFor, isGood, seenA
 use Rattle.call.specs.Refusals.{row1Time, rowsOf}
 use Rattle.call.specs.Step.{respondOf}
 use Rattle.call.proofs.Laws.{same-tenths, no-row}
-use Rattle.call.proofs.CallTheorems.{place-injective}
+use Rattle.call.proofs.CallTheorems.{place-injective, isAccepted, not-refused}
 
 -- ---- the statement's words
 
@@ -52,10 +51,6 @@ asked n r a t = respondOf r (record { call = n; time = t; body = body.RequestRep
 
 abbrev pub inTurn : ℕ → Record → Request → Tenths → Request → Tenths → Stepped
 inTurn n r a t b u = asked n (asked n r a t .next) b u
-
-abbrev pub isAccepted : Answer → Bool
-isAccepted (Accepted o) = true
-isAccepted (Refused n) = false
 
 -- "both orders are accepted": this one, a at t and then b at u
 pub record BothAccepted (n : ℕ) (r : Record) (a : Request) (t : Tenths) (b : Request) (u : Tenths) : Type 0 where
@@ -151,11 +146,6 @@ good-sound : {e : Entry} {es : List Entry} → In e es → (seen : List Bool) �
 unfolding areGood
 good-sound (In·head {x = x} {xs = es} h) seen g = subst (λ y. Sound (named y) y) (sym h) (entry-sound (named x) seen x (and-left _ (areGood (seenAfter (named x) seen) es) g))
 good-sound (In·tail {x = x} m) seen g = good-sound m (seenAfter (named x) seen) (and-right (isGood (named x) seen x) _ g)
-
--- an accepted item passed the rows
-not-refused : (c : Check) (r : Record) (s : Stepped) → isAccepted (guarded c r s .answer) ≡ true → c ≡ Pass
-not-refused Pass r s h = refl
-not-refused (Fail n) r s h = absurd (false≢true h)
 
 -- the rows that a request meets
 abbrev rows : Record → Request → Tenths → List Row

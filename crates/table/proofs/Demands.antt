@@ -16,8 +16,8 @@ use Rattle.call.specs.declared.answers.Answer.the-variants.{Accepted, Refused}
 use Rattle.call.specs.Setup.{openOf}
 use Rattle.call.specs.Step.{isSetup, respondOf}
 use Rattle.call.specs.Alone.{Fed}
-use Rattle.call.proofs.Order.{isAccepted, either-order, either-order-items}
-use Rattle.call.proofs.CallTheorems.{isOver}
+use Rattle.call.proofs.CallTheorems.{isAccepted, isOver}
+use Rattle.call.proofs.Order.{either-order, either-order-items}
 use Rattle.table.specs.Types.{Record, Answer, Stepped, Entry}
 use Rattle.table.specs.Runs.{log, final}
 use Rattle.table.specs.Table.{goes, ends, unless, damage, fresh, tableStep, serve, setupAt, otherAt, place, store}

@@ -20,7 +20,7 @@ use Rattle.call.specs.Events.{endsCall, met}
 use Rattle.call.specs.Operations.{dropped, isRelease, continued, aborted}
 use Rattle.call.specs.Refusals.{row1Time, rowsOf}
 use Rattle.call.specs.Step.{kindOf, served, respondOf}
-use Rattle.call.proofs.Order.{isAccepted}
+use Rattle.call.proofs.CallTheorems.{isAccepted}
 use Rattle.table.specs.Types.{Item, Record, Answer, Stepped}
 use Rattle.table.specs.Table.{all}
 

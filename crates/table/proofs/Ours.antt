@@ -23,8 +23,7 @@ use Rattle.call.specs.Step.{isSetup, kindOf, respondOf}
 use Rattle.call.specs.Alone as alone
 use Rattle.call.specs.Alone.{Fed, aloneStep}
 use Rattle.call.proofs.InRange.{isLeftWell, respond-left, open-left}
-use Rattle.call.proofs.CallTheorems.{isOver}
-use Rattle.call.proofs.Order.{isAccepted}
+use Rattle.call.proofs.CallTheorems.{isAccepted, isOver}
 use Rattle.table.specs.Types.{Item, Record, Answer, Stepped, Entry}
 use Rattle.table.specs.Table.{goes, ends, unless, fresh, Done}
 use Rattle.table.specs.Entry.{blankEntry, ourSlots}

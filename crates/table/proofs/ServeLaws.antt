@@ -16,8 +16,7 @@ use Rattle.call.specs.Answers.{refused}
 use Rattle.call.specs.Alone.{Fed}
 use Rattle.call.specs.Setup.{openOf}
 use Rattle.call.specs.Step.{isSetup, respondOf}
-use Rattle.call.proofs.CallTheorems.{isOver, Remains, respond-remains}
-use Rattle.call.proofs.Order.{isAccepted}
+use Rattle.call.proofs.CallTheorems.{isAccepted, isOver, Remains, respond-remains}
 use Rattle.table.specs.Types.{Answer, Record, Stepped, Entry, Spot}
 use Rattle.table.specs.declared.entry.Owner.the-variants as owner
 use Rattle.table.specs.declared.lookup.Spot.the-variants.{Nowhere, Free, Own}
