@@ -358,7 +358,7 @@ module _ (r : Record) (i : Item) (rest : List ℕ) (is-answer : i .body ≡ body
           unarmed-roles (next .armings) (ap (λ s. length (s .armings)) next-met ∙ disarmed-length (disarms role.Answer) (r .armings) ∙ ten)
           ∙ every-same _ _ (λ q. ap (λ n. isMode n mode.None) (answered-armings q) ∙ wiped (isPast q) (modeAt q (r .armings))) roles
 
-  -- so the relationship is none exactly then (a record has ten armings)
+  -- so the relationship is none exactly if the record before was so (a record has ten armings)
   pub answered-none : length (r .armings) ≡ 10 → (relationshipOf next ≡ relationship.None) ↔ (isIdleOnceAnswered r ≡ true)
   answered-none ten = rw (← idle-answered ten) (none-exactly next)
 
