@@ -2,7 +2,7 @@
 use Prim.Native.Nat.{ℕ, zero, suc, _≤_}
 use mathlib.Core.Path.{_≡_, refl, sym, ap, _∙_}
 use mathlib.Core.Logic.{_↔_}
-use mathlib.Core.Bool.{Bool, true, false, not, cond, Bool·beq, _&&_, _||_, and-false, true≢false, false≢true}
+use mathlib.Core.Bool.{Bool, true, false, not, cond, Bool·beq, _&&_, _||_, and-true, and-false, true≢false, false≢true}
 use mathlib.Core.List.{List, [], _∷_}
 use native.Mathlib.Omega.{arith}
 use lib.Dec.{ltb, eqb}
@@ -286,13 +286,19 @@ pub busy-spares-caller : (r : Record) (q : Role) (t : Tenths) → legOf q ≡ On
     → modeAt q (met r role.Busy t .next .armings) ≡ modeAt q (r .armings)
 busy-spares-caller r q t e h = lost-leg-met r role.Busy q t refl h ∙ ap (λ l. cond (eqb (legNumber l) 2) mode.None (modeAt q (r .armings))) e
 
--- ---- the hold
+-- ---- a met point: the hold, and the end of the call
 
 -- "The call is held exactly if the mode was 0"
 pub held-exactly : (p : Role) (m : Mode) → isHeld (holdAfter p m) ≡ isMode m mode.Interrupted
 held-exactly p mode.None = refl
 held-exactly p mode.Interrupted = refl
 held-exactly p mode.Notify = refl
+
+-- "If a leg became absent and the mode was not 0, the call is over"
+pub ends-exactly : (p : Role) (m : Mode) → endsCall p m ≡ (losesLeg p && not (isMode m mode.Interrupted))
+ends-exactly p mode.None = sym (and-true (losesLeg p))
+ends-exactly p mode.Interrupted = sym (and-false (losesLeg p))
+ends-exactly p mode.Notify = sym (and-true (losesLeg p))
 
 -- ---- an answered call (T-01)
 
@@ -304,13 +310,7 @@ isPast q = not (metIn q Active)
 pub answer-row : (q : Role) → isAmong q (disarms role.Answer) ≡ isPast q
 answer-row = agree (λ q. isAmong q (disarms role.Answer)) isPast refl
 
--- Answer does not end the call
-answer-goes-on : (m : Mode) → endsCall role.Answer m ≡ false
-answer-goes-on mode.None = refl
-answer-goes-on mode.Interrupted = refl
-answer-goes-on mode.Notify = refl
-
--- it makes no charge pending and removes none
+-- Answer makes no charge pending and removes none
 answered-pending : (t : Tenths) (c : Charge) → isPending (answered t c) ≡ isPending c
 answered-pending t charge.None = refl
 answered-pending t (charge.Waiting period) = refl
@@ -337,7 +337,7 @@ module _ (r : Record) (i : Item) (rest : List ℕ) (is-answer : i .body ≡ body
       let rows = row1Time (i .time) ∷ rowsOf r k (i .time) rest in
       ap (λ c. guarded c r (served r k (i .time) rest) .next) (not-refused (firstOf rows) r (served r k (i .time) rest) accepted)
       ∙ ap (λ x. served r (kindOf x (r .stage)) (i .time) rest .next) is-answer
-      ∙ rw (answer-goes-on m)
+      ∙ rw (ends-exactly role.Answer m)
 
   pub answered-active : next .stage ≡ Active
   answered-active = ap (λ s. s .stage) next-met
