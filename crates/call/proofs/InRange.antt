@@ -8,9 +8,9 @@ use native.Mathlib.Omega.{arith}
 use lib.Dec.{leb, eqb}
 use lib.ListN.{length, getD, drop, set}
 use borrow.Author.Tests.{leb-true, ltb-false, le-leb, eq-eqb, eqb-true, not-false}
-use Rattle.forms.specs.Bytes.{within, all, same}
+use Rattle.forms.specs.Bytes.{within, all, same, pad}
 use Rattle.forms.specs.Fields.{Field, byte, nature, digitCount, isDigit, allInRange}
-use Rattle.forms.specs.Item.{formOf, restInRange, itemInRange, pad}
+use Rattle.forms.specs.Item.{formOf, restInRange, itemInRange}
 use Rattle.forms.specs.Profile.{fieldsOf, profileBytes, senseInRange, profileInRange, profileOf, isProfile}
 use Rattle.forms.specs.Units.{isClockReading, isPeriod, isTimer, isDefaultTimer}
 use Rattle.forms.specs.declared.item.Body.the-variants as body

@@ -11,7 +11,8 @@ use lib.ListN.{length, getD, take, drop, set, drop-of-length-le}
 use lib.Seq.{drop-cons, drop-drop, take-suc-set, set-getD}
 use borrow.Author.Tests.{ltb-true, ltb-false, lt-ltb, le-ltb}
 use Rattle.forms.specs.Fields.{isDigit, allInRange}
-use Rattle.forms.specs.Item.{entryOf, pad}
+use Rattle.forms.specs.Bytes.{pad}
+use Rattle.forms.specs.Item.{entryOf}
 use Rattle.forms.specs.Item.{formOf, restInRange, itemInRange}
 use Rattle.forms.specs.Profile.{viewOf, profileOf, isProfile, readProfile}
 use Rattle.forms.specs.Units.{clockEnd}

@@ -2,7 +2,7 @@
 use Prim.Native.Nat.{ℕ}
 use mathlib.Core.List.{List, []}
 use lib.ListN.{replicate}
-use Rattle.forms.specs.Item.{pad}
+use Rattle.forms.specs.Bytes.{pad}
 use Rattle.call.specs.Types.{Leg, Tenths, Seconds, LegState, Stage, Hold, Arming, Number, Record}
 use Rattle.forms.specs.declared.item.Leg.the-variants.{One, Two}
 use Rattle.forms.specs.declared.profile.Handling.the-variants.{Continue}

@@ -1,6 +1,6 @@
 // The record of one call (document 01, One call), and records with some fields replaced.
 ghost use mathlib.Core.Path.{_≡_};
-ghost use Rattle.forms.specs.Item.{pad};
+ghost use Rattle.forms.specs.Bytes.{pad};
 ghost use Rattle.call.specs.Record.{noArmings, numberOf, blank, timed, placed, legAt, withLeg};
 use crate::points::Role;
 use forms::bytes;

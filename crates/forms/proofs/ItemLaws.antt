@@ -8,10 +8,10 @@ use lib.ListN.{length, getD, take, drop, length-append, length-drop}
 use lib.Seq.{drop-drop, getD-drop}
 use lib.Dec.{leb, ltb, eqb, lit≤}
 use borrow.Author.Tests.{leb-true, eqb-true}
-use Rattle.forms.specs.Bytes.{toBytes, fromBytes, within, leads, same}
+use Rattle.forms.specs.Bytes.{toBytes, fromBytes, within, leads, same, pad}
 use Rattle.forms.specs.Units.{clockEnd}
 use Rattle.forms.specs.Fields.{allInRange, frame, framed}
-use Rattle.forms.specs.Item.{formOf, fieldBytes, restInRange, itemBytes, itemInRange, restAt, restOf, itemOf, isItem, readItem, headOf, pad, fixedOf}
+use Rattle.forms.specs.Item.{formOf, fieldBytes, restInRange, itemBytes, itemInRange, restAt, restOf, itemOf, isItem, readItem, headOf, fixedOf}
 use Rattle.forms.specs.declared.item.Body.{Body}
 use Rattle.forms.specs.declared.item.Body.the-variants as B
 use Rattle.forms.specs.declared.item.Rest.{Rest}

@@ -2,7 +2,9 @@ pub mod ByteLaws
 pub mod ItemLaws
 pub mod WriteLaws
 pub mod ProfileLaws
+pub mod FeederLaws
 pub mod Walks
 pub mod ItemTheorems
 pub mod ProfileTheorems
+pub mod FeederTheorems
 pub mod Cases

@@ -18,6 +18,12 @@ fromBytes (suc w) s = fromBytes w s * 256 + getD s w 0
 abbrev pub part : List ℕ → ℕ → ℕ → List ℕ
 part s a n = take n (drop a s)
 
+-- s in n places, zeros behind it
+abbrev pub pad : ℕ → List ℕ → List ℕ
+pad zero s = []
+pad (suc n) [] = 0 ∷ pad n []
+pad (suc n) (x ∷ s) = x ∷ pad n s
+
 -- low..high
 abbrev pub within : ℕ → ℕ → ℕ → Bool
 within low high n = leb low n && leb n high

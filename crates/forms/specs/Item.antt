@@ -4,7 +4,7 @@ use mathlib.Core.List.{List, [], _∷_, _++_}
 use mathlib.Core.Bool.{Bool, _&&_, cond}
 use lib.ListN.{length, getD, drop}
 use lib.Dec.{leb, eqb}
-use Rattle.forms.specs.Bytes.{toBytes, fromBytes, same}
+use Rattle.forms.specs.Bytes.{toBytes, fromBytes, pad, same}
 use Rattle.forms.specs.Units.{isClockReading}
 use Rattle.forms.specs.Fields.{Field, nature, service, forwarded, digitCount, digits, digit, cause, leg, entryCount, period, bytesIn, allInRange, frame, framed}
 use Rattle.forms.specs.declared.item.Leg.{Leg}
@@ -138,11 +138,6 @@ readEntry s a = cond (leb 5 (length (drop a s))) (E.Entry (entryOf (drop a s)) (
 
 abbrev pub headOf : ℕ → ℕ → ℕ → ℕ → List ℕ
 headOf n kind call time = frame n ++ (kind ∷ (toBytes 4 call ++ toBytes 6 time))
-
-abbrev pub pad : ℕ → List ℕ → List ℕ
-pad zero l = []
-pad (suc n) [] = 0 ∷ pad n []
-pad (suc n) (x ∷ l) = x ∷ pad n l
 
 abbrev pub fixed : ℕ → List ℕ → Bool → Rest → Fixed
 fixed kind bytes inRange rest = record { kind = kind; len = length bytes; bytes = pad 5 bytes; in_range = inRange; rest = rest }

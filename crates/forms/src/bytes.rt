@@ -1,6 +1,6 @@
 // Lent byte runs: reading never leaves them, whatever the place. Numbers are big-endian (document 01, Forms).
 ghost use mathlib.Core.Path.{_≡_};
-ghost use Prim.Native.Nat.{_+_, _<_, _≤_};
+ghost use Prim.Native.Nat.{_+_, _-_, _<_, _≤_};
 ghost use lib.ListN.{length, getD, drop};
 ghost use lib.Seq.{sets};
 ghost use Rattle.forms.specs.Bytes.{fromBytes, part, within, all, contains, leads};
@@ -25,6 +25,13 @@ pub fn part_of(s: &[u8], a: usize, n: usize) -> &[u8]
 {
     let t = from(s, a);
     if n <= t.len() { &t[..n] } else { t }
+}
+
+// a - b, and 0 where b is the larger.
+pub fn minus(a: usize, b: usize) -> usize
+    ensures { λ r. ⌜ r ≡ a - b ⌝ }
+{
+    if b <= a { a - b } else { 0 }
 }
 
 pub(crate) fn size(n: u8) -> usize

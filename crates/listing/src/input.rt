@@ -1,91 +1,61 @@
-// Standard input as runs of bytes that begin with their own length: the profile, then the items.
-// A read may give fewer bytes than a run has, so it is repeated until the run is whole or the input ends. A read that fails counts as the end.
-ghost use Prim.Native.Nat.{_≤_};
+// Standard input: the profile, and then items through the feeder. A read may give any number of bytes; one that fails counts as the end.
+// The buffer's first half has the profile at its front and the bytes of the last read behind it; from the second read on these begin at BASE, so that the bytes that a feeder holds have room in front of them.
+ghost use mathlib.Core.Path.{_≡_};
+ghost use Prim.Native.Nat.{_≤_, _-_};
 ghost use lib.ListN.{length};
+ghost use Rattle.forms.specs.Bytes.{part};
+ghost use Rattle.listing.specs.Input.{isUnfinished, goesOn};
 use forms::bytes;
+use forms::feeder;
+use forms::feeder::Feeder;
+use forms::feeder::Taken;
+use forms::framing;
+use forms::framing::Framing;
 use libc::STDIN_FILENO;
 
 // The input stands in the first half of the program's one buffer.
 pub const HALF: usize = 32768;
 
-// What begins at a place: a whole run and its length, one whose length is out of bounds, or one that is not whole.
-pub enum Found {
-    Short,
-    Bad,
-    Run(usize),
-}
+// A profile has 188 bytes at most, an unfinished item 64.
+const BASE: usize = 256;
 
 // Where the bytes that are left begin and end in the buffer, and what begins there.
 pub struct Place {
     pub at: usize,
     pub end: usize,
-    pub found: Found,
+    pub found: Framing,
 }
 
-// What the bytes t begin with; a run has low..high bytes.
-fn run_in(t: &[u8], low: usize, high: usize) -> Found {
-    if t.len() < 2 {
-        return Found::Short;
-    }
-    let n = bytes::number2(t);
-    if n < low {
-        return Found::Bad;
-    }
-    if high < n {
-        return Found::Bad;
-    }
-    if t.len() < n {
-        return Found::Short;
-    }
-    Found::Run(n)
-}
-
-fn run_at(s: &[u8], at: usize, end: usize, low: usize, high: usize) -> Found {
-    if end < at {
-        return Found::Short;
-    }
-    run_in(bytes::part_of(s, at, end - at), low, high)
-}
-
-fn is_short(f: Found) -> bool {
-    match f {
-        Found::Short => true,
-        Found::Bad => false,
-        Found::Run(_) => false,
-    }
-}
-
-// Moves the bytes from `at` to `end` down to `keep`, and answers where they end.
-fn move_down(s: &mut [u8], keep: usize, at: usize, end: usize) -> usize
-    requires { ⌜ ((keep ≤ at) × (at ≤ end)) × (end ≤ length (now s)) ⌝ }
-    ensures { λ r. ⌜ r ≤ end ⌝ }
+// One read to place `at` and behind it; answers where its bytes end.
+fn read_to(s: &mut [u8], at: usize) -> usize
+    requires { ⌜ (at ≤ 32768) × (32768 ≤ length (now s)) ⌝ }
+    ensures { λ r. ⌜ (at ≤ r) × (r ≤ 32768) ⌝ }
 {
-    let n = end - at;
-    let mut i = 0;
-    while i < n {
-        s[keep + i] = s[at + i];
-        i += 1;
-    }
-    keep + n
-}
-
-// One read behind the bytes that end at `end`; answers where they end then.
-fn read_more(s: &mut [u8], end: usize) -> usize
-    requires { ⌜ (end ≤ 32768) × (32768 ≤ length (now s)) ⌝ }
-    ensures { λ r. ⌜ (end ≤ r) × (r ≤ 32768) ⌝ }
-{
-    let part = &mut s[end..HALF];
+    let part = &mut s[at..HALF];
     let got = libc::read(STDIN_FILENO, part);
-    end + io::count(got, part)
+    at + io::count(got, part)
 }
 
-// Reads until the run that begins at `at` is whole, or the input ends; answers where the bytes end.
-fn fill(s: &mut [u8], at: usize, end: usize, low: usize, high: usize) -> usize
-    requires { ⌜ (end ≤ 32768) × (32768 ≤ length (now s)) ⌝ }
+fn is_short(f: Framing) -> bool {
+    match f {
+        Framing::Short => true,
+        Framing::Bad => false,
+        Framing::Whole(_) => false,
+    }
+}
+
+// What the first `end` bytes begin with.
+fn profile_in(s: &[u8], end: usize) -> Framing {
+    framing::of_profile(end, bytes::number2(s))
+}
+
+// Reads until the profile is whole, or the input ends; answers where the bytes end.
+fn fill(s: &mut [u8]) -> usize
+    requires { ⌜ 32768 ≤ length (now s) ⌝ }
 {
-    let mut e = end;
-    while is_short(run_at(s, at, e, low, high)) {
-        let more = read_more(s, e);
+    let mut e = 0;
+    while is_short(profile_in(s, e)) {
+        let more = read_to(s, e);
         if more <= e {
             return e;
         }
@@ -94,38 +64,137 @@ fn fill(s: &mut [u8], at: usize, end: usize, low: usize, high: usize) -> usize
     e
 }
 
-// Finds the run that begins at `at`. Where it is not whole, what is left of it moves down to `keep`, and the rest is read behind it.
-pub(crate) fn find(
-    s: &mut [u8],
-    keep: usize,
-    at: usize,
-    end: usize,
-    low: usize,
-    high: usize,
-) -> Place {
-    let found = run_at(s, at, end, low, high);
-    if is_short(found) {
-        // None of these four is so in `run`; tested here, they need no `requires` there.
-        if s.len() < HALF {
-            return Place { at, end, found };
-        }
-        if HALF < end {
-            return Place { at, end, found };
-        }
-        if end < at {
-            return Place { at, end, found };
-        }
-        if at < keep {
-            return Place { at, end, found };
-        }
-        let left = move_down(s, keep, at, end);
-        let e = fill(s, keep, left, low, high);
-        let now = run_at(s, keep, e, low, high);
+// Finds the profile.
+pub(crate) fn find_profile(s: &mut [u8]) -> Place {
+    if s.len() < HALF {
         return Place {
-            at: keep,
-            end: e,
-            found: now,
+            at: 0,
+            end: 0,
+            found: Framing::Short,
         };
     }
-    Place { at, end, found }
+    let end = fill(s);
+    let found = profile_in(s, end);
+    Place { at: 0, end, found }
+}
+
+// The bytes from place `at` to `end`.
+fn chunk_in(s: &[u8], at: usize, end: usize) -> &[u8]
+    ensures { λ r. ⌜ now r ≡ part (now (s .entry)) at (end - at) ⌝ }
+{
+    bytes::part_of(s, at, bytes::minus(end, at))
+}
+
+fn is_unfinished(t: Taken) -> bool
+    ensures { λ r. ⌜ r ≡ isUnfinished t ⌝ }
+{
+    match t {
+        Taken::Closed => false,
+        Taken::Bad(n) => false,
+        Taken::Unfinished => true,
+        Taken::Whole(n) => false,
+    }
+}
+
+// The chunk is not the end of the input, and does not finish the item.
+fn goes_on(f: Feeder, c: &[u8]) -> bool
+    ensures { λ r. ⌜ r ≡ goesOn f (now (c .entry)) ⌝ }
+{
+    (0 < c.len()) & is_unfinished(feeder::take(f, c))
+}
+
+// A feeder, and where the bytes end that were read last.
+pub struct Reading {
+    pub feeder: Feeder,
+    pub end: usize,
+}
+
+// Reads on behind the bytes that f holds, until a chunk finishes the item or the input ends.
+fn read_on(s: &mut [u8], f: Feeder) -> Reading
+    requires { ⌜ 32768 ≤ length (now s) ⌝ }
+{
+    let mut feeder = f;
+    let mut end = read_to(s, BASE);
+    while goes_on(feeder, chunk_in(s, BASE, end)) {
+        let fed = feeder::feed(feeder, chunk_in(s, BASE, end));
+        let next = fed.feeder;
+        feeder = next;
+        end = read_to(s, BASE);
+    }
+    Reading { feeder, end }
+}
+
+// Stores the bytes h so that they end at BASE; answers where they begin.
+fn put_before(s: &mut [u8], h: &[u8]) -> usize
+    requires { ⌜ 32768 ≤ length (now s) ⌝ }
+    ensures { λ r. ⌜ r ≤ 256 ⌝ }
+{
+    let n = h.len();
+    if BASE < n {
+        return BASE;
+    }
+    let at = BASE - n;
+    let mut i = 0;
+    while i < n {
+        s[at + i] = h[i];
+        i += 1;
+    }
+    at
+}
+
+fn put_held(s: &mut [u8], f: Feeder) -> usize
+    requires { ⌜ 32768 ≤ length (now s) ⌝ }
+    ensures { λ r. ⌜ r ≤ 256 ⌝ }
+{
+    let g = f.held;
+    let bytes = g.bytes;
+    put_before(s, bytes::part_of(&bytes, 0, g.count))
+}
+
+pub(crate) fn place_after(at: usize, n: usize) -> usize {
+    if n <= usize::MAX - at { at + n } else { at }
+}
+
+// What was found behind so many bytes held.
+fn found_of(t: Taken, held: usize) -> Framing {
+    match t {
+        Taken::Closed => Framing::Bad,
+        Taken::Bad(n) => Framing::Bad,
+        Taken::Unfinished => Framing::Short,
+        Taken::Whole(n) => Framing::Whole(place_after(held, n)),
+    }
+}
+
+// The item whose first bytes the feeder holds, put together in the buffer.
+fn find_on(s: &mut [u8], f: Feeder) -> Place
+    requires { ⌜ 32768 ≤ length (now s) ⌝ }
+{
+    let r = read_on(s, f);
+    let end = r.end;
+    let g = r.feeder;
+    let at = put_held(s, g);
+    let taken = feeder::take(g, chunk_in(s, BASE, end));
+    Place {
+        at,
+        end,
+        found: found_of(taken, BASE - at),
+    }
+}
+
+// Finds the item that begins at `at`: there, or, where it is not whole, put together from what follows in the input.
+pub(crate) fn find_item(s: &mut [u8], at: usize, end: usize) -> Place {
+    let taken = feeder::take(feeder::new(), chunk_in(s, at, end));
+    if is_unfinished(taken) {
+        // The buffer is always so long: tested here, it needs no `requires` above.
+        if HALF <= s.len() {
+            let fed = feeder::feed(feeder::new(), chunk_in(s, at, end));
+            let f = fed.feeder;
+            return find_on(s, f);
+        }
+    }
+    Place {
+        at,
+        end,
+        found: found_of(taken, 0),
+    }
 }

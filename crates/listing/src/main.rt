@@ -7,22 +7,14 @@ mod output;
 
 use call::answers::Answer;
 use forms::bytes;
+use forms::framing::Framing;
 use forms::profile;
 use forms::profile::ReadProfile;
-use input::Found;
 use input::HALF;
 use input::Place;
 use table::entry;
 use table::feed;
 use table::line;
-
-const SHORTEST_ITEM: usize = 14;
-
-const LONGEST_ITEM: usize = 65;
-
-const SHORTEST_PROFILE: usize = 10;
-
-const LONGEST_PROFILE: usize = 188;
 
 // One buffer serves both ways: the input stands in its first half, the output in its second. The profile stays at the front of the input, in `keep` bytes. The item to be answered, where there is one more, has `size` bytes at place `at`, and
 // `number` is its number. The input that was read ends at `end`; the output is filled to `filled`. `refusal` ends the listing, unless it is 0.
@@ -37,11 +29,11 @@ pub struct State {
     pub more: bool,
 }
 
-fn size_of(found: Found) -> usize {
+fn size_of(found: Framing) -> usize {
     match found {
-        Found::Short => 0,
-        Found::Bad => 0,
-        Found::Run(n) => n,
+        Framing::Short => 0,
+        Framing::Bad => 0,
+        Framing::Whole(n) => n,
     }
 }
 
@@ -93,28 +85,24 @@ fn at_place(s: State, place: Place) -> State
     let found = place.found;
     let cut: u8 = if place.at < place.end { 1 } else { 0 };
     match found {
-        Found::Short => ended(s, cut),
-        Found::Bad => ended(s, 1),
-        Found::Run(n) => with_item(s, place.at, place.end, n),
+        Framing::Short => ended(s, cut),
+        Framing::Bad => ended(s, 1),
+        Framing::Whole(n) => with_item(s, place.at, place.end, n),
     }
-}
-
-fn place_after(at: usize, n: usize) -> usize {
-    if n <= usize::MAX - at { at + n } else { at }
 }
 
 // Fetches the item after the one that was answered.
 fn fetch(buf: &mut [u8], s: State) -> State
     ensures { λ r. ⌜ remaining r < past (s .number) ⌝ }
 {
-    let at = place_after(s.at, s.size);
-    let place = input::find(buf, s.keep, at, s.end, SHORTEST_ITEM, LONGEST_ITEM);
+    let at = input::place_after(s.at, s.size);
+    let place = input::find_item(buf, at, s.end);
     at_place(s, place)
 }
 
 // Reads the profile and stores the header. Refusal 2, with number 0, where the profile is cut short or malformed; else the first item is fetched.
 fn start(buf: &mut [u8]) -> State {
-    let place = input::find(buf, 0, 0, 0, SHORTEST_PROFILE, LONGEST_PROFILE);
+    let place = input::find_profile(buf);
     let found = place.found;
     let n = size_of(found);
     let s = State {

@@ -7,7 +7,7 @@ use mathlib.Core.List.{List, [], _∷_}
 use lib.Dec.{eqb}
 use lib.ListN.{length, replicate}
 use borrow.Author.Tests.{eqb-true}
-use Rattle.forms.specs.Item.{pad}
+use Rattle.forms.specs.Bytes.{pad}
 use Rattle.forms.specs.declared.profile.Handling.{Handling}
 use Rattle.forms.specs.declared.profile.Handling.the-variants as handling
 use Rattle.forms.proofs.ByteLaws.{and-left, and-right}

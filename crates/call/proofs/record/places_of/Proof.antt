@@ -4,7 +4,7 @@ use native.Mathlib.Omega.{arith}
 use borrow.Author.Needs.{needs}
 use lib.ListN.{length, take, length-set}
 use lib.Seq.{take-all}
-use Rattle.forms.specs.Item.{pad}
+use Rattle.forms.specs.Bytes.{pad}
 use Rattle.call.proofs.Laws.{pad-step}
 use Rattle.call.proofs.record.places_of.Statement.{statement}
 use Rattle.call.proofs.record.places_of.Tie as tie

@@ -7,10 +7,10 @@ use Rattle.listing.proofs.input.fill.Statement.{statement}
 use Rattle.listing.proofs.input.fill.Tie as tie
 
 abbrev Inv-loop : tie.InvT-loop
-Inv-loop s₀ at end low high e₀ s e = ((e ≤ 32768) × (32768 ≤ length s)) × (length s ≡ length s₀)
+Inv-loop s₀ e₀ s e = ((e ≤ 32768) × (32768 ≤ length s)) × (length s ≡ length s₀)
 
 abbrev μ-loop : tie.MeasureT-loop
-μ-loop s₀ at end low high e₀ s e = 32768 - e
+μ-loop s₀ e₀ s e = 32768 - e
 
 pub fill-spec : {M : Type 1} → statement M
 fill-spec =

@@ -1,0 +1,140 @@
+-- Document 02, T-02: items that arrive in bits. What a feeder answers goes by the bytes that it holds and those of the chunk, one behind the other.
+use Prim.Native.Nat.{ℕ, zero, suc, _+_, _-_}
+use mathlib.Core.List.{List, [], _∷_, _++_}
+use mathlib.Core.Bool.{Bool, true, false, _||_, not, cond}
+use lib.ListN.{length, take, drop}
+use lib.Dec.{eqb}
+use Rattle.forms.specs.Bytes.{fromBytes, pad}
+use Rattle.forms.specs.Framing.{itemFraming}
+use Rattle.forms.specs.Item.{readItem}
+use Rattle.forms.specs.declared.framing.Framing.{Framing}
+use Rattle.forms.specs.declared.framing.Framing.the-variants as F
+use Rattle.forms.specs.declared.item.ReadItem.{ReadItem}
+use Rattle.forms.specs.declared.item.ReadItem.the-variants as R
+use Rattle.forms.specs.declared.feeder.Gathered.{Gathered}
+use Rattle.forms.specs.declared.feeder.Feeder.{Feeder}
+use Rattle.forms.specs.declared.feeder.Taken.{Taken}
+use Rattle.forms.specs.declared.feeder.Taken.the-variants as T
+use Rattle.forms.specs.declared.feeder.Outcome.{Outcome}
+use Rattle.forms.specs.declared.feeder.Outcome.the-variants as O
+use Rattle.forms.specs.declared.feeder.Fed.{Fed}
+use Rattle.forms.specs.declared.feeder.Dropped.{Dropped}
+
+-- ---- the feeder
+
+-- the bytes gathered, and how they are kept: in 65 places, zeros behind them
+abbrev pub bytesOf : Gathered → List ℕ
+bytesOf g = take (g .count) (g .bytes)
+
+abbrev pub gathered : List ℕ → Gathered
+gathered s = record { bytes = pad 65 s; count = length s }
+
+-- a feeder that holds the bytes g of an unfinished item; one as new; one that a length field has stopped
+abbrev pub holding : Gathered → Feeder
+holding g = record { held = g; stopped = false }
+
+abbrev pub newFeeder : Feeder
+newFeeder = holding (gathered [])
+
+abbrev pub stoppedFeeder : Feeder
+stoppedFeeder = record { held = gathered []; stopped = true }
+
+-- ---- a call
+
+-- what a run of bytes begins with: an item not whole yet, a length field outside 14..65, or a whole item
+abbrev pub begins : List ℕ → Framing
+begins s = itemFraming (length s) (fromBytes 2 s)
+
+abbrev pub isShort : Framing → Bool
+isShort F.Short = true
+isShort F.Bad = false
+isShort (F.Whole n) = false
+
+-- refusal 15: "feeder stopped, or handed in holding a length outside 14..65 or a whole item's bytes or more"
+unfoldable pub isClosed : Feeder → Bool
+isClosed f = f .stopped || not (isShort (begins (bytesOf (f .held))))
+
+-- what is taken of the chunk c behind the bytes h: "a call ends with the item it completes, or with the chunk"; of a length field outside 14..65 "its two bytes used"
+abbrev pub takenAs : Framing → List ℕ → Taken
+takenAs F.Short h = T.Unfinished
+takenAs F.Bad h = T.Bad (2 - length h)
+takenAs (F.Whole n) h = T.Whole (n - length h)
+
+-- 15 comes "before 1, using no byte"
+unfoldable pub takeOf : Feeder → List ℕ → Taken
+takeOf f c = let h = bytesOf (f .held) in cond (isClosed f) T.Closed (takenAs (begins (h ++ c)) h)
+
+-- the next feeder, how many bytes of the chunk were used, and the outcome; no item is handed out with it
+abbrev pub withoutItem : Feeder → ℕ → Outcome → Fed
+withoutItem f n o = record { feeder = f; used = n; outcome = o; bytes = gathered [] }
+
+-- a whole item of the bytes s: handed out with its bytes, read as the reader reads them; "a malformed one is answered 1 instead and feeding goes on"
+abbrev pub completedAs : ReadItem → ℕ → List ℕ → Fed
+completedAs (R.Item i a) n s = record { feeder = newFeeder; used = n; outcome = O.Item i a; bytes = gathered s }
+completedAs (R.Refused m) n s = withoutItem newFeeder n (O.Refused m)
+
+abbrev pub completed : ℕ → List ℕ → Fed
+completed n s = completedAs (readItem s) n s
+
+abbrev pub fedAs : Taken → Feeder → List ℕ → Fed
+fedAs T.Closed f c = withoutItem f 0 (O.Refused 15)
+fedAs (T.Bad n) f c = withoutItem stoppedFeeder n (O.Refused 1)
+fedAs T.Unfinished f c = withoutItem (holding (gathered (bytesOf (f .held) ++ c))) (length c) O.UsedUp
+fedAs (T.Whole n) f c = completed n (bytesOf (f .held) ++ take n c)
+
+unfoldable pub feedOf : Feeder → List ℕ → Fed
+feedOf f c = fedAs (takeOf f c) f c
+
+-- ---- "A reset drops the unfinished item and says how many bytes that was, 0 where feeding would be 15."
+
+unfoldable pub resetOf : Feeder → Dropped
+resetOf f = record { feeder = newFeeder; bytes = cond (isClosed f) 0 (length (bytesOf (f .held))) }
+
+-- ---- a run in chunks: "However a byte run fed after a reset is cut, the items, the answers 1 and their places are the same as for one chunk, its rest offered again."
+
+-- an item or an answer 1, and its place: how many bytes of the run are used when it is given
+pub record Placed : Type 0 where
+  pub outcome : Outcome
+  pub bytes : Gathered
+  pub place : ℕ
+
+-- the items and the answers 1 in order, and the feeder that is left
+pub record Got : Type 0 where
+  pub answers : List Placed
+  pub left : Feeder
+
+abbrev pub nothingBut : Feeder → Got
+nothingBut f = record { answers = []; left = f }
+
+-- what was got before, and what is got then
+abbrev pub andThen : List Placed → Got → Got
+andThen before g = record { answers = before ++ g .answers; left = g .left }
+
+abbrev pub isAnswer : Outcome → Bool
+isAnswer (O.Item i a) = true
+isAnswer (O.Refused n) = eqb n 1
+isAnswer O.UsedUp = false
+
+-- a chunk that begins at place p of the run, "its rest offered again" after each answer, in n calls at most
+unfoldable pub offered : ℕ → Feeder → ℕ → List ℕ → Got
+offered zero f p c = nothingBut f
+offered (suc n) f p c =
+    let r = feedOf f c in
+    let q = p + r .used in
+    cond (isAnswer (r .outcome))
+    (andThen (record { outcome = r .outcome; bytes = r .bytes; place = q } ∷ []) (offered n (r .feeder) q (drop (r .used) c)))
+    (nothingBut (r .feeder))
+
+-- as each answer uses a byte, one call more than there are bytes is enough (`FeederTheorems.enough`)
+abbrev pub chunkFed : Feeder → ℕ → List ℕ → Got
+chunkFed f p c = offered (suc (length c)) f p c
+
+-- chunks one after the other, the first beginning at place p
+unfoldable pub chunksFed : Feeder → ℕ → List (List ℕ) → Got
+chunksFed f p [] = nothingBut f
+chunksFed f p (c ∷ cs) = let g = chunkFed f p c in andThen (g .answers) (chunksFed (g .left) (p + length c) cs)
+
+-- the run that the chunks are a cutting of
+unfoldable pub joined : List (List ℕ) → List ℕ
+joined [] = []
+joined (c ∷ cs) = c ++ joined cs
