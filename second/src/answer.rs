@@ -32,7 +32,8 @@ impl Accepted {
     };
 }
 
-/// The rows of the table, in the order in which they are checked.
+/// The rows of the table, in the order in which they are checked; and document
+/// 02's, which says of each where it is checked.
 #[derive(Clone, Copy, PartialEq, Eq, Debug)]
 pub enum Refusal {
     ItemMalformed = 1,
@@ -49,4 +50,6 @@ pub enum Refusal {
     NotPossible = 12,
     ChargePending = 13,
     PeriodNotOver = 14,
+    /// T-02, before row 1.
+    FeederStopped = 15,
 }

@@ -7,6 +7,7 @@
 // What the papers say.
 mod answer;
 mod call;
+mod feeder;
 mod forms;
 mod listing;
 mod record;
@@ -16,6 +17,7 @@ mod trigger;
 // The commands that test and measure.
 mod bench;
 mod check;
+mod chunks;
 mod compare;
 mod compare_tables;
 mod counts;
@@ -64,6 +66,10 @@ Tables handed in whole, sound ones and damaged ones (src/tables.rs has the form)
   second compare-tables PROGRAM COUNT [SEED]
                                  runs PROGRAM, which does the same, and this one
                                  on COUNT random cases, and compares
+
+Items that arrive in bits (src/chunks.rs has the form)
+  second chunks < CASES          answers cases, each a feeder handed in with
+                                 chunks and resets
 
 Measuring
   second feed-items < BYTES      feeds items to one table, over and over: reads
@@ -117,6 +123,7 @@ fn run(words: &[&str]) -> Result<bool, String> {
         ["compare-tables", program, count, seed @ ..] => {
             return compare_tables::run(program, number(count)?, first(seed)?)
         }
+        ["chunks"] => write_output(&chunks::run(&read_input()?))?,
         ["feed-items"] => println!("{}", bench::feed_items(&read_input()?)?),
         ["bench-input", open @ ("1" | "32" | "64"), items] => write_output(&bench::input(
             number(open)? as u32,
