@@ -41,8 +41,10 @@ pub enum Step {
 }
 
 /// One call, with the feeder before and afterwards.
-pub struct Call {
+pub struct Call<'a> {
     pub before: Feeder,
+    /// The chunk, or its rest; none for a reset.
+    pub offered: &'a [u8],
     /// How many bytes were used, or dropped by a reset.
     pub bytes: u64,
     pub outcome: Outcome,
@@ -75,7 +77,7 @@ impl Case {
     }
 
     /// Nothing if the bytes are too few for a case.
-    fn read(bytes: &[u8]) -> Option<Case> {
+    pub fn read(bytes: &[u8]) -> Option<Case> {
         let mut reader = Reader(bytes);
         reader.number::<2>()?;
         let feeder = Feeder {
@@ -97,7 +99,7 @@ impl Case {
     }
 
     /// All the calls, in their order.
-    pub fn calls(&self) -> Vec<Call> {
+    pub fn calls(&self) -> Vec<Call<'_>> {
         let mut feeder = self.feeder;
         let mut calls = Vec::new();
         for step in &self.steps {
@@ -111,7 +113,7 @@ impl Case {
 }
 
 /// Feeds a chunk, its rest offered again after each item and each answer 1.
-pub fn feed_chunk(feeder: &mut Feeder, chunk: &[u8]) -> Vec<Call> {
+pub fn feed_chunk<'a>(feeder: &mut Feeder, chunk: &'a [u8]) -> Vec<Call<'a>> {
     let mut calls = Vec::new();
     let mut rest = chunk;
     loop {
@@ -127,6 +129,7 @@ pub fn feed_chunk(feeder: &mut Feeder, chunk: &[u8]) -> Vec<Call> {
         };
         calls.push(Call {
             before,
+            offered: rest,
             bytes: used as u64,
             outcome,
             after: *feeder,
@@ -138,11 +141,12 @@ pub fn feed_chunk(feeder: &mut Feeder, chunk: &[u8]) -> Vec<Call> {
     }
 }
 
-fn reset(feeder: &mut Feeder) -> Call {
+fn reset(feeder: &mut Feeder) -> Call<'static> {
     let before = *feeder;
     let dropped = feeder.reset();
     Call {
         before,
+        offered: &[],
         bytes: dropped,
         outcome: Outcome::Reset,
         after: *feeder,
@@ -188,19 +192,26 @@ fn push_call(text: &mut String, call: &Call) {
         Outcome::UsedUp => write!(text, "fed {bytes} used-up").unwrap(),
         Outcome::Reset => write!(text, "reset {bytes}").unwrap(),
     }
-    write!(text, " left {}", call.after.count).unwrap();
-    if !call.after.held().is_empty() {
-        text.push(' ');
-        push_hex(text, call.after.held());
-    }
-    if call.after.stopped {
-        *text += " stopped";
-    }
+    *text += " left ";
+    push_feeder(text, &call.after);
     text.push('\n');
 }
 
-fn push_hex(text: &mut String, bytes: &[u8]) {
+pub fn push_feeder(text: &mut String, feeder: &Feeder) {
+    write!(text, "{}", feeder.count).unwrap();
+    if !feeder.held().is_empty() {
+        text.push(' ');
+        push_hex(text, feeder.held());
+    }
+    if feeder.stopped {
+        *text += " stopped";
+    }
+}
+
+pub fn push_hex(text: &mut String, bytes: &[u8]) {
+    let digit = |value: u8| char::from(b"0123456789abcdef"[usize::from(value)]);
     for byte in bytes {
-        write!(text, "{byte:02x}").unwrap();
+        text.push(digit(byte >> 4));
+        text.push(digit(byte & 15));
     }
 }

@@ -7,14 +7,14 @@ use crate::answer::Answer;
 use crate::counts::Counts;
 use crate::forms::{kind, read_item, Handling, Leg, Seconds, Tenths, TIME_END};
 use crate::generate::Generator;
+use crate::program;
 use crate::random::Random;
 use crate::record::{Armings, CalledNumber, Charge, Mode, Point, Record, Stage};
 use crate::table::{self, Entry, ENTRIES};
 use crate::tables::{self, read_entry, Case, ENTRY_BYTES};
 use crate::text;
 use std::io::{self, BufRead, BufReader, BufWriter, Read, Write};
-use std::process::{Command, Stdio};
-use std::thread;
+use std::process::ChildStdin;
 
 /// Tables of a wrong number of records.
 const WRONG_COUNTS: [(&str, &[usize]); 5] = [
@@ -317,27 +317,13 @@ fn own(random: &mut Random, table: &mut [Entry], slot: usize) {
 
 /// Compares COUNT cases; true if nothing differs and every kind came up.
 pub fn run(program: &str, count: u64, seed: u64) -> Result<bool, String> {
-    let mut child = Command::new(program)
-        .stdin(Stdio::piped())
-        .stdout(Stdio::piped())
-        .spawn()
-        .map_err(|error| format!("{program}: {error}"))?;
-    let (stdin, stdout) = (child.stdin.take(), child.stdout.take());
-    let result = thread::scope(|scope| {
-        scope.spawn(move || {
-            let mut input = BufWriter::new(stdin.expect("it is piped"));
-            for seed in seed..seed + count {
-                // A program that has ended shows in its output.
-                let _ = input.write_all(&generate(seed).0.bytes());
-            }
-        });
-        compare(stdout.expect("it is piped"), count, seed)
-    });
-    let status = child.wait().map_err(|error| error.to_string())?;
-    match status.success() {
-        true => result,
-        false => Err(format!("{program}: {status}")),
-    }
+    let write = |mut input: BufWriter<ChildStdin>| {
+        for seed in seed..seed + count {
+            // A program that has ended shows in its output.
+            let _ = input.write_all(&generate(seed).0.bytes());
+        }
+    };
+    program::run_beside(program, write, |output| compare(output, count, seed))
 }
 
 fn compare(output: impl Read, count: u64, seed: u64) -> Result<bool, String> {

@@ -19,6 +19,7 @@ mod bench;
 mod check;
 mod chunks;
 mod compare;
+mod compare_chunks;
 mod compare_tables;
 mod counts;
 mod coverage;
@@ -70,6 +71,11 @@ Tables handed in whole, sound ones and damaged ones (src/tables.rs has the form)
 Items that arrive in bits (src/chunks.rs has the form)
   second chunks < CASES          answers cases, each a feeder handed in with
                                  chunks and resets
+  second compare-chunks PROGRAM COUNT [SEED]
+                                 runs PROGRAM, which does the same, and this one
+                                 on fixed cases and COUNT random ones, and
+                                 compares; and holds this program's feeder to
+                                 T-02's sentence about cuts
 
 Measuring
   second feed-items < BYTES      feeds items to one table, over and over: reads
@@ -124,6 +130,9 @@ fn run(words: &[&str]) -> Result<bool, String> {
             return compare_tables::run(program, number(count)?, first(seed)?)
         }
         ["chunks"] => write_output(&chunks::run(&read_input()?))?,
+        ["compare-chunks", program, count, seed @ ..] => {
+            return compare_chunks::run(program, number(count)?, first(seed)?)
+        }
         ["feed-items"] => println!("{}", bench::feed_items(&read_input()?)?),
         ["bench-input", open @ ("1" | "32" | "64"), items] => write_output(&bench::input(
             number(open)? as u32,
