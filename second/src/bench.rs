@@ -1,7 +1,8 @@
 //! Measuring this program beside the proved one: the listing programs on one
 //! long input, and feeding a table, item for item.
 
-use crate::forms::{frames, write_item};
+use crate::forms::write_item;
+use crate::listing::frames;
 use crate::table::{self, Entry, ENTRIES};
 use crate::text;
 use std::fs::{self, File};

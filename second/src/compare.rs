@@ -1,7 +1,8 @@
 //! The listing program and this one on the same generated scenarios.
 
 use crate::counts::Counts;
-use crate::forms::{frames, read_item};
+use crate::forms::read_item;
+use crate::listing::frames;
 use crate::{coverage, generate, listing, program, text};
 use std::ops::Range;
 use std::thread;

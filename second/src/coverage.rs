@@ -4,8 +4,9 @@
 use crate::answer::Accepted;
 use crate::call::{occurs_at, point_met};
 use crate::counts::Counts;
-use crate::forms::{frames, read_item, read_profile, Body, Other};
+use crate::forms::{read_item, read_profile, Body, Other};
 use crate::generate;
+use crate::listing::frames;
 use crate::record::{Mode, Point, Record, Relationship, Stage};
 use crate::table;
 use crate::text;

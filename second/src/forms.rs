@@ -372,28 +372,6 @@ impl<'a> Reader<'a> {
     }
 }
 
-/// The parts of an input as their length fields tell them: the profile, then
-/// the items. The last is all the rest, if no length can be told of it.
-pub fn frames(bytes: &[u8]) -> Vec<&[u8]> {
-    let mut frames = Vec::new();
-    let mut rest = bytes;
-    while let [first, ..] = rest {
-        let second = rest.get(1).unwrap_or(&0);
-        let length = usize::from(u16::from_be_bytes([*first, *second]));
-        let is_profile = frames.is_empty();
-        let lengths = if is_profile {
-            PROFILE_LENGTHS
-        } else {
-            ITEM_LENGTHS
-        };
-        let known = lengths.contains(&length) && length <= rest.len();
-        let (frame, after) = rest.split_at(if known { length } else { rest.len() });
-        frames.push(frame);
-        rest = after;
-    }
-    frames
-}
-
 /// An item with this head and body, whether well-formed or not: the test
 /// commands write both sorts.
 pub fn write_item(kind: u8, call: u32, time: u64, body: &[u8]) -> Vec<u8> {

@@ -3,11 +3,11 @@
 //! Document 01, section "The listing program".
 
 use crate::answer::{Accepted, Answer, Refusal};
-use crate::forms::{read_profile, Leg, ITEM_LENGTHS, PROFILE_LENGTHS};
+use crate::feeder::{Fed, Feeder};
+use crate::forms::{read_profile, Leg, PROFILE_LENGTHS};
 use crate::record::Relationship;
 use crate::table;
-use std::io::{self, BufRead, Write};
-use std::ops::RangeInclusive;
+use std::io::{self, BufRead, Read, Write};
 
 /// The size of the buffers for input and output.
 pub const BUFFER: usize = 1 << 16;
@@ -15,30 +15,37 @@ pub const BUFFER: usize = 1 << 16;
 /// Lists all the answers; the caller lends a buffered input.
 pub fn run(input: &mut impl BufRead, output: &mut impl Write) -> io::Result<()> {
     let mut text = b"item answer\n".to_vec();
-    let mut profile = Vec::new();
-    let read = read_frame(input, PROFILE_LENGTHS, &mut profile)?;
-    if read != Frame::Whole || read_profile(&profile).is_none() {
+    let profile = take_profile(input)?;
+    if read_profile(&profile).is_none() {
         push_line(&mut text, 0, &Err(Refusal::ProfileMalformed));
         return output.write_all(&text);
     }
     let mut table = table::fresh();
-    let mut item = Vec::new();
-    for number in 1.. {
-        match read_frame(input, ITEM_LENGTHS, &mut item)? {
-            Frame::Whole => {
-                let answer = table::feed_sound(&mut table, &item, &profile);
-                push_line(&mut text, number, &answer);
-            }
-            Frame::Bad => {
-                push_line(&mut text, number, &Err(Refusal::ItemMalformed));
-                break;
-            }
-            Frame::End => break,
+    let mut feeder = Feeder::NEW;
+    let mut number = 0;
+    // After a length that no item has, no further item can be told.
+    while !feeder.stopped {
+        let chunk = input.fill_buf()?;
+        if chunk.is_empty() {
+            break;
         }
+        let (used, fed) = feeder.feed(chunk);
+        input.consume(used);
+        let answer = match fed {
+            Fed::Item(item) => table::feed_sound(&mut table, item, &profile),
+            Fed::Refused(refusal) => Err(refusal),
+            Fed::UsedUp => continue,
+        };
+        number += 1;
+        push_line(&mut text, number, &answer);
         if text.len() >= BUFFER {
             output.write_all(&text)?;
             text.clear();
         }
+    }
+    let cut_short = feeder.reset() > 0;
+    if cut_short {
+        push_line(&mut text, number + 1, &Err(Refusal::ItemMalformed));
     }
     output.write_all(&text)
 }
@@ -50,49 +57,39 @@ pub fn of(mut bytes: &[u8]) -> Vec<u8> {
     output
 }
 
-/// What comes next in the input.
-#[derive(PartialEq, Eq)]
-enum Frame {
-    Whole,
-    /// Cut short, or of a length that nothing has: no further one can be told.
-    Bad,
-    End,
+/// The bytes of the profile, as many as its length field says. Where it cannot
+/// be right, or the input ends before, they are no profile.
+fn take_profile(input: &mut impl BufRead) -> io::Result<Vec<u8>> {
+    let mut profile = Vec::new();
+    input.by_ref().take(2).read_to_end(&mut profile)?;
+    if let Some(length) = profile_length(&profile) {
+        let rest = length as u64 - 2;
+        input.by_ref().take(rest).read_to_end(&mut profile)?;
+    }
+    Ok(profile)
 }
 
-/// Reads as many bytes as the length field says, if it can be right.
-fn read_frame(
-    input: &mut impl BufRead,
-    lengths: RangeInclusive<usize>,
-    frame: &mut Vec<u8>,
-) -> io::Result<Frame> {
-    frame.clear();
-    read_bytes(input, 2, frame)?;
-    let [high, low] = frame[..] else {
-        let end = frame.is_empty();
-        return Ok(if end { Frame::End } else { Frame::Bad });
-    };
-    let length = usize::from(u16::from_be_bytes([high, low]));
-    if !lengths.contains(&length) {
-        return Ok(Frame::Bad);
-    }
-    read_bytes(input, length - 2, frame)?;
-    let whole = frame.len() == length;
-    Ok(if whole { Frame::Whole } else { Frame::Bad })
+/// What the length field says, if a profile can have that length.
+fn profile_length(bytes: &[u8]) -> Option<usize> {
+    let length = u16::from_be_bytes(*bytes.first_chunk()?);
+    Some(length.into()).filter(|length| PROFILE_LENGTHS.contains(length))
 }
 
-/// Appends so many bytes to the frame, or as many as there are.
-fn read_bytes(input: &mut impl BufRead, count: usize, frame: &mut Vec<u8>) -> io::Result<()> {
-    let end = frame.len() + count;
-    while frame.len() < end {
-        let buffer = input.fill_buf()?;
-        let read = buffer.len().min(end - frame.len());
-        if read == 0 {
-            break;
-        }
-        frame.extend_from_slice(&buffer[..read]);
-        input.consume(read);
+/// The parts of an input: the profile, then the items. The last is all the
+/// rest, if no length can be told of it.
+pub fn frames(bytes: &[u8]) -> Vec<&[u8]> {
+    let length = profile_length(bytes).unwrap_or(bytes.len());
+    let (profile, mut rest) = bytes.split_at(length.min(bytes.len()));
+    let mut frames = vec![profile];
+    let mut feeder = Feeder::NEW;
+    while !rest.is_empty() {
+        let (used, _) = feeder.feed(rest);
+        let (item, after) = rest.split_at(if feeder.stopped { rest.len() } else { used });
+        frames.push(item);
+        rest = after;
     }
-    Ok(())
+    frames.retain(|frame| !frame.is_empty());
+    frames
 }
 
 /// Appends one line of the listing.

@@ -4,9 +4,8 @@
 //! Document 01, sections "The listing program" and "Both sides of each edge".
 
 use crate::bench;
-use crate::forms::frames;
 use crate::generate;
-use crate::listing;
+use crate::listing::{self, frames};
 use crate::random::Random;
 use crate::table;
 use crate::text;

@@ -18,9 +18,10 @@
 //! answer. All the kinds of items are in `assemble_words`.
 
 use crate::forms::{
-    frames, kind, read_item, read_profile, with_length_and_version, write_item, Body, Entry, Event,
+    kind, read_item, read_profile, with_length_and_version, write_item, Body, Entry, Event,
     Handling, Item, Number, Operation, Other, Profile, Sense, Setup,
 };
+use crate::listing::frames;
 use std::fmt::Write;
 use std::fs;
 use std::ops::RangeInclusive;
