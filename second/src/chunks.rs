@@ -14,6 +14,8 @@
 //! its count, its bytes if it holds some, and `stopped` if it is.
 //!
 //! ```text
+//! case 1
+//! fed 3 used-up left 3 000e01
 //! fed 11 item 000e010600000007000000001388 left 0
 //! fed 2 refused 1 left 0 stopped
 //! fed 0 refused 15 left 0 stopped

@@ -1,9 +1,13 @@
-//! The listing program and this one on the same generated scenarios.
+//! The listing program and this one on the same generated scenarios, which
+//! reach both in the same pieces.
 
 use crate::counts::Counts;
 use crate::forms::read_item;
 use crate::listing::frames;
+use crate::program::LONGEST_PIECE;
+use crate::random::Random;
 use crate::{coverage, generate, listing, program, text};
+use std::io::{self, BufReader, Read};
 use std::ops::Range;
 use std::thread;
 
@@ -61,17 +65,55 @@ fn compare_part(program: &str, seeds: Range<u64>) -> Result<Found, String> {
     for seed in seeds.step_by(THREADS as usize) {
         let scenario = generate::scenario(seed);
         found.items += coverage::count_scenario(&mut found.coverage, &scenario);
-        let ours = listing::of(&scenario);
-        let theirs = program::output_of(program, &scenario);
+        let pieces = cut(&mut Random::new(!seed), &scenario);
+        let ours = listing::of_input(BufReader::new(Pieces(&pieces)));
+        let theirs = program::output_of_pieces(program, &pieces);
         let theirs = theirs.map_err(|error| format!("seed {seed}: {error}"))?;
         if ours != theirs {
             found.differences += 1;
-            found
-                .first
-                .get_or_insert_with(|| (seed, difference(&scenario, &theirs, &ours)));
+            found.first.get_or_insert_with(|| {
+                let lengths: Vec<usize> = pieces.iter().map(|piece| piece.len()).collect();
+                let difference = difference(&scenario, &theirs, &ours);
+                (seed, format!("in pieces of {lengths:?}\n{difference}"))
+            });
         }
     }
     Ok(found)
+}
+
+/// Pieces of random lengths, none of them empty; now and then all of one byte,
+/// or as long as they may be.
+pub fn cut<'a>(random: &mut Random, bytes: &'a [u8]) -> Vec<&'a [u8]> {
+    match random.below(40) {
+        0 => return bytes.chunks(1).collect(),
+        1..=4 => return bytes.chunks(LONGEST_PIECE).collect(),
+        _ => {}
+    }
+    let mut pieces = Vec::new();
+    let mut rest = bytes;
+    while !rest.is_empty() {
+        let longest = random.pick(&[1, 2, 5, 30, 100, 300, 1000]);
+        let length = 1 + random.below(longest) as usize;
+        let (piece, after) = rest.split_at(length.min(rest.len()));
+        pieces.push(piece);
+        rest = after;
+    }
+    pieces
+}
+
+/// An input of which each read gives one piece, as `output_of_pieces` gives
+/// them; no read has room for less.
+pub struct Pieces<'a>(pub &'a [&'a [u8]]);
+
+impl Read for Pieces<'_> {
+    fn read(&mut self, buffer: &mut [u8]) -> io::Result<usize> {
+        let Some((piece, rest)) = self.0.split_first() else {
+            return Ok(0);
+        };
+        self.0 = rest;
+        buffer[..piece.len()].copy_from_slice(piece);
+        Ok(piece.len())
+    }
 }
 
 /// The profile, the items of the differing call up to there, both answers.

@@ -286,7 +286,7 @@ fn cut_at_random(random: &mut Random, run: &[u8], steps: &mut Vec<Step>) {
 }
 
 /// All the cases, as bytes.
-fn cases(count: u64, seed: u64) -> impl Iterator<Item = Vec<u8>> {
+pub fn cases(count: u64, seed: u64) -> impl Iterator<Item = Vec<u8>> {
     let random = (seed..seed + count).map(|seed| generate(seed).bytes());
     fixed_cases().into_iter().chain(random)
 }
@@ -354,7 +354,7 @@ fn next_case(lines: &mut Peekable<impl Iterator<Item = OutputLine>>) -> io::Resu
 
 /// Whether a run that is fed after a reset leads to something else than in one
 /// chunk. T-02 says that it does not.
-fn cut_matters(case: &Case) -> bool {
+pub fn cut_matters(case: &Case) -> bool {
     let mut feeder = case.feeder;
     let mut is_new = feeder.count == 0 && !feeder.stopped;
     for run in case.steps.split(|step| matches!(step, Step::Reset)) {

@@ -7,14 +7,13 @@ use crate::forms::{read_item, ITEM_LENGTHS};
 
 /// An item begins with its length field.
 const LENGTH_BYTES: usize = 2;
-/// The longest item's bytes.
-pub const ROOM: usize = 65;
+pub const ROOM: usize = *ITEM_LENGTHS.end();
 
 /// A feeder may be handed in with any values.
 #[derive(Clone, Copy, Debug)]
 pub struct Feeder {
-    /// The first `count` are the bytes gathered of an unfinished item; what
-    /// lies behind them means nothing.
+    /// The first `count` are the bytes gathered of an unfinished item, and all
+    /// of them if it is larger; what lies behind them means nothing.
     pub bytes: [u8; ROOM],
     pub count: u64,
     pub stopped: bool,
@@ -82,7 +81,7 @@ impl Feeder {
         (self.count >= LENGTH_BYTES as u64).then_some(length.into())
     }
 
-    /// The bytes gathered; of a count that is too large, as many as there are.
+    /// The bytes gathered.
     pub fn held(&self) -> &[u8] {
         &self.bytes[..self.count.min(ROOM as u64) as usize]
     }

@@ -51,9 +51,14 @@ pub fn run(input: &mut impl BufRead, output: &mut impl Write) -> io::Result<()> 
 }
 
 /// The listing of the bytes.
-pub fn of(mut bytes: &[u8]) -> Vec<u8> {
+pub fn of(bytes: &[u8]) -> Vec<u8> {
+    of_input(bytes)
+}
+
+/// The listing of an input that does not fail.
+pub fn of_input(mut input: impl BufRead) -> Vec<u8> {
     let mut output = Vec::new();
-    run(&mut bytes, &mut output).expect("nothing fails in memory");
+    run(&mut input, &mut output).expect("nothing fails in memory");
     output
 }
 

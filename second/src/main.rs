@@ -58,7 +58,8 @@ Random scenarios; the same SEED (1 if left out) gives the same ones
                                  reach, of the forms that have to be reached
   second compare PROGRAM COUNT [SEED]
                                  runs the listing program PROGRAM and this one
-                                 on COUNT scenarios, and compares the listings;
+                                 on COUNT scenarios, which both read in the same
+                                 random pieces, and compares the listings;
                                  prints the coverage too
 
 Tables handed in whole, sound ones and damaged ones (src/tables.rs has the form)

@@ -1,14 +1,21 @@
-//! The paper's own examples, and what the test commands rely on: that every
-//! input survives being explained, the ranges of the text, the rounds of bench.
+//! The paper's own examples, the feeder, and what the test commands rely on:
+//! that every input survives being explained, the ranges of the text, the
+//! rounds of bench.
 //!
-//! Document 01, sections "The listing program" and "Both sides of each edge".
+//! Document 01, sections "The listing program" and "Both sides of each edge";
+//! document 02, T-02.
 
 use crate::bench;
+use crate::chunks::{self, Case, Step};
+use crate::compare::{self, Pieces};
+use crate::compare_chunks;
+use crate::feeder::Feeder;
 use crate::generate;
 use crate::listing::{self, frames};
 use crate::random::Random;
 use crate::table;
 use crate::text;
+use std::io::BufReader;
 
 /// Every line gets the answer that stands in it.
 fn check(scenario: &str) {
@@ -145,6 +152,137 @@ fn p10_timer() {
         0 call 1 request-report 6/2 interrupted timer 2047  -> ok control 2
         0 call 1 continue                                   -> ok control - d20470",
     );
+}
+
+/// A feeder that holds these bytes, and the lines that the steps get: chunks in
+/// hex, `-` for one of no bytes, and resets.
+fn check_feeder(held: &str, count: u64, stopped: bool, steps: &str, expected: &[&str]) {
+    let mut feeder = Feeder {
+        count,
+        stopped,
+        ..Feeder::NEW
+    };
+    let held = hex(held);
+    feeder.bytes[..held.len()].copy_from_slice(&held);
+    let steps = steps.split_whitespace().map(|word| match word {
+        "reset" => Step::Reset,
+        "-" => Step::Chunk(vec![]),
+        word => Step::Chunk(hex(word)),
+    });
+    let case = Case {
+        feeder,
+        steps: steps.collect(),
+    };
+    let output = String::from_utf8(chunks::run(&case.bytes())).unwrap();
+    let lines: Vec<&str> = output.lines().skip(1).collect();
+    assert_eq!(lines, expected);
+}
+
+fn hex(word: &str) -> Vec<u8> {
+    let byte = |place| u8::from_str_radix(&word[place..place + 2], 16).unwrap();
+    (0..word.len()).step_by(2).map(byte).collect()
+}
+
+/// P1's item in bits; a length that no item has; resets.
+#[test]
+fn feeder_with_chunks() {
+    check_feeder(
+        "",
+        0,
+        false,
+        "000e01 06000000070000000013 88000d05 reset 00 - reset",
+        &[
+            "fed 3 used-up left 3 000e01",
+            "fed 10 used-up left 13 000e0106000000070000000013",
+            "fed 1 item 000e010600000007000000001388 left 0",
+            "fed 2 refused 1 left 0 stopped",
+            "fed 0 refused 15 left 0 stopped",
+            "reset 0 left 0",
+            "fed 1 used-up left 1 00",
+            "fed 0 used-up left 1 00",
+            "reset 1 left 0",
+        ],
+    );
+}
+
+/// A malformed item is answered 1, and the next one is handed out.
+#[test]
+fn feeder_goes_on_after_a_malformed_item() {
+    check_feeder(
+        "000e02060000000700000000",
+        12,
+        false,
+        "1388000e010600000007000000001388",
+        &[
+            "fed 2 refused 1 left 0",
+            "fed 14 item 000e010600000007000000001388 left 0",
+            "fed 0 used-up left 0",
+        ],
+    );
+}
+
+/// The length field's second byte comes in another chunk than its first.
+#[test]
+fn feeder_stops_at_a_cut_length_field() {
+    for low in ["0d", "42"] {
+        check_feeder(
+            "",
+            0,
+            false,
+            &format!("00 {low}00 00 reset"),
+            &[
+                "fed 1 used-up left 1 00",
+                "fed 1 refused 1 left 0 stopped",
+                "fed 0 refused 15 left 0 stopped",
+                "fed 0 refused 15 left 0 stopped",
+                "reset 0 left 0",
+            ],
+        );
+    }
+}
+
+/// Each cause of 15 by itself: nothing is used and nothing changes.
+#[test]
+fn feeder_handed_in_damaged() {
+    let whole = "000e010600000007000000001388";
+    for (held, count, stopped, left) in [
+        ("", 0, true, "0 stopped".to_string()),
+        ("000e01", 3, true, "3 000e01 stopped".to_string()),
+        ("000d", 2, false, "2 000d".to_string()),
+        ("0042", 2, false, "2 0042".to_string()),
+        ("010e", 2, false, "2 010e".to_string()),
+        (whole, 14, false, format!("14 {whole}")),
+        (whole, 15, false, format!("15 {whole}00")),
+        (
+            whole,
+            u64::MAX,
+            false,
+            format!("{} {whole:0<130}", u64::MAX),
+        ),
+    ] {
+        let refused = format!("fed 0 refused 15 left {left}");
+        let expected = [&refused[..], &refused, "reset 0 left 0"];
+        check_feeder(held, count, stopped, "00 - reset", &expected);
+    }
+}
+
+/// T-02's sentence about cuts.
+#[test]
+fn cuts_do_not_matter() {
+    for (number, bytes) in compare_chunks::cases(500, 1).enumerate() {
+        let case = Case::read(&bytes).unwrap();
+        assert!(!compare_chunks::cut_matters(&case), "case {}", number + 1);
+    }
+}
+
+#[test]
+fn listing_of_pieces() {
+    for seed in 0..500 {
+        let scenario = generate::scenario(seed);
+        let pieces = compare::cut(&mut Random::new(seed), &scenario);
+        let listing = listing::of_input(BufReader::new(Pieces(&pieces)));
+        assert_eq!(listing, listing::of(&scenario), "seed {seed}");
+    }
 }
 
 #[test]
