@@ -122,7 +122,7 @@ pub fn feed_chunk<'a>(feeder: &mut Feeder, chunk: &'a [u8]) -> Vec<Call<'a>> {
         let before = *feeder;
         let (used, fed) = feeder.feed(rest);
         let (goes_on, outcome) = match fed {
-            Fed::Item(item) => (true, Outcome::Item(item.to_vec())),
+            Fed::Item(bytes, _) => (true, Outcome::Item(bytes.to_vec())),
             Fed::Refused(refusal) => {
                 let goes_on = refusal == Refusal::ItemMalformed;
                 (goes_on, Outcome::Refused(refusal))

@@ -3,7 +3,7 @@
 //! Document 02, T-02.
 
 use crate::answer::Refusal;
-use crate::forms::{read_item, ITEM_LENGTHS};
+use crate::forms::{read_item, Item, ITEM_LENGTHS};
 
 /// An item begins with its length field.
 const LENGTH_BYTES: usize = 2;
@@ -21,8 +21,9 @@ pub struct Feeder {
 
 /// What a chunk has led to.
 pub enum Fed<'a> {
-    /// A well-formed item is complete: its bytes, which lie in the feeder.
-    Item(&'a [u8]),
+    /// A well-formed item is complete: its bytes, which lie in the feeder, and
+    /// what they say.
+    Item(&'a [u8], Item<'a>),
     /// 1 or 15.
     Refused(Refusal),
     /// The chunk is used up, and no item is complete.
@@ -55,9 +56,9 @@ impl Feeder {
             return (used, Fed::UsedUp);
         }
         self.count = 0;
-        let item = &self.bytes[..length];
-        match read_item(item) {
-            Some(_) => (used, Fed::Item(item)),
+        let bytes = &self.bytes[..length];
+        match read_item(bytes) {
+            Some(item) => (used, Fed::Item(bytes, item)),
             None => (used, Fed::Refused(Refusal::ItemMalformed)),
         }
     }

@@ -32,7 +32,7 @@ pub fn run(input: &mut impl BufRead, output: &mut impl Write) -> io::Result<()> 
         let (used, fed) = feeder.feed(chunk);
         input.consume(used);
         let answer = match fed {
-            Fed::Item(item) => table::feed_sound(&mut table, item, &profile),
+            Fed::Item(_, item) => table::feed_read(&mut table, item, &profile),
             Fed::Refused(refusal) => Err(refusal),
             Fed::UsedUp => continue,
         };

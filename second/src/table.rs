@@ -6,7 +6,7 @@
 use crate::answer::{Answer, Refusal};
 use crate::call;
 use crate::forms::{
-    read_item, read_profile, Body, Other, Profile, Setup, Tenths, DEFAULT_TIMERS, DIGITS,
+    read_item, read_profile, Body, Item, Other, Profile, Setup, Tenths, DEFAULT_TIMERS, DIGITS,
     DIGIT_COUNTS, LONGEST_TIMER, NATURES, PERIODS, TIME_END,
 };
 use crate::record::{CalledNumber, Charge, Mode, Point, Record};
@@ -33,7 +33,7 @@ pub fn fresh() -> [Entry; ENTRIES] {
 
 /// Feeds any item to any table, a Setup with any profile.
 pub fn feed(table: &mut [Entry], item: &[u8], profile: &[u8]) -> Answer {
-    let request = read(item, profile)?;
+    let request = request(read(item)?, profile)?;
     if !is_sound(table) {
         return Err(Refusal::TableUnsound);
     }
@@ -42,7 +42,12 @@ pub fn feed(table: &mut [Entry], item: &[u8], profile: &[u8]) -> Answer {
 
 /// The same for a table that is known to be sound.
 pub fn feed_sound(table: &mut [Entry], item: &[u8], profile: &[u8]) -> Answer {
-    serve(table, read(item, profile)?)
+    feed_read(table, read(item)?, profile)
+}
+
+/// The same for an item that has been read.
+pub fn feed_read(table: &mut [Entry], item: Item, profile: &[u8]) -> Answer {
+    serve(table, request(item, profile)?)
 }
 
 /// A well-formed item; a Setup with its well-formed profile.
@@ -57,9 +62,13 @@ enum RequestBody<'a> {
     Other(Other<'a>),
 }
 
-/// Rows 1 and 2.
-fn read<'a>(item: &'a [u8], profile: &'a [u8]) -> Result<Request<'a>, Refusal> {
-    let item = read_item(item).ok_or(Refusal::ItemMalformed)?;
+/// Row 1.
+fn read(item: &[u8]) -> Result<Item<'_>, Refusal> {
+    read_item(item).ok_or(Refusal::ItemMalformed)
+}
+
+/// Row 2.
+fn request<'a>(item: Item<'a>, profile: &'a [u8]) -> Result<Request<'a>, Refusal> {
     let body = match item.body {
         Body::Setup(setup) => {
             let profile = read_profile(profile).ok_or(Refusal::ProfileMalformed)?;
