@@ -266,16 +266,19 @@ fn add_items(generator: &mut Generator, run: &mut Vec<u8>) {
     }
 }
 
-/// Small pieces often, and chunks of no bytes here and there.
+/// Small pieces often, if that does not make too many of them, and chunks of no
+/// bytes here and there.
 fn cut_at_random(random: &mut Random, run: &[u8], steps: &mut Vec<Step>) {
-    let longest = random.pick(&[1, 2, 3, 10, 30, 100, 2000]);
-    let empty = random.pick(&[0, 0, 10, 50]);
+    let longest = random
+        .pick(&[1, 2, 3, 10, 30, 100, 2000])
+        .max(run.len() / 20);
+    let empty = random.pick(&[0, 0, 10, 40]);
     let mut rest = run;
     while !rest.is_empty() {
         if random.chance(empty) {
             steps.push(chunk(&[]));
         }
-        let length = 1 + random.below(longest) as usize;
+        let length = 1 + random.below(longest as u64) as usize;
         let (piece, after) = rest.split_at(length.min(rest.len()));
         steps.push(chunk(piece));
         rest = after;

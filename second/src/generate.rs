@@ -354,7 +354,7 @@ impl Generator {
         match self.random.below(12) {
             0 => bytes.truncate(bytes.len() - 1 - self.random.below(13) as usize),
             1 => {
-                let length: u16 = self.random.pick(&[0, 1, 2, 13, 66, 255, 65535]);
+                let length: u16 = self.random.pick(&[0, 1, 2, 13, 66, 255, 256 + 14, 65535]);
                 bytes.extend(length.to_be_bytes());
                 bytes.extend(vec![1; self.random.below(80) as usize]);
             }
