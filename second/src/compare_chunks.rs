@@ -310,7 +310,8 @@ pub fn run(program: &str, count: u64, seed: u64) -> Result<bool, String> {
 }
 
 fn compare(output: impl Read, count: u64, seed: u64) -> Result<bool, String> {
-    let mut lines = BufReader::new(output).lines().peekable();
+    let mut output = BufReader::new(output);
+    let mut lines = iter::from_fn(|| next_line(&mut output)).peekable();
     let mut counts = Counts::new(wanted());
     let mut numbers = 0;
     let mut call_count = 0;
@@ -342,15 +343,24 @@ fn compare(output: impl Read, count: u64, seed: u64) -> Result<bool, String> {
     Ok(complete && differences == 0)
 }
 
-type OutputLine = io::Result<String>;
+type Line = io::Result<String>;
+
+/// With the end of the line, if it has one.
+fn next_line(output: &mut impl BufRead) -> Option<Line> {
+    let mut line = String::new();
+    let read = output.read_line(&mut line);
+    match read {
+        Ok(0) => None,
+        read => Some(read.map(|_| line)),
+    }
+}
 
 /// The next case's lines: up to the next one that begins a case.
-fn next_case(lines: &mut Peekable<impl Iterator<Item = OutputLine>>) -> io::Result<String> {
-    let begins = |line: &OutputLine| matches!(line, Ok(line) if line.starts_with("case "));
+fn next_case(lines: &mut Peekable<impl Iterator<Item = Line>>) -> Line {
+    let begins = |line: &Line| matches!(line, Ok(line) if line.starts_with("case "));
     let mut text = String::new();
     while let Some(line) = lines.next_if(|line| text.is_empty() || !begins(line)) {
         text += &line?;
-        text.push('\n');
     }
     Ok(text)
 }
@@ -362,8 +372,9 @@ pub fn cut_matters(case: &Case) -> bool {
     let mut is_new = feeder.count == 0 && !feeder.stopped;
     for run in case.steps.split(|step| matches!(step, Step::Reset)) {
         let chunks: Vec<&[u8]> = run.iter().filter_map(chunk_of).collect();
-        let whole = chunks.concat();
-        if led_to(&mut feeder, &chunks) != led_to(&mut Feeder::NEW.clone(), &[&whole]) && is_new {
+        let cut = led_to(&mut feeder, &chunks);
+        let whole = led_to(&mut Feeder::NEW.clone(), &[&chunks.concat()]);
+        if is_new && cut != whole {
             return true;
         }
         feeder.reset();
@@ -561,7 +572,7 @@ fn reset_form(call: &Call) -> String {
 
 /// The case, and the first lines that differ.
 fn difference(case: &Case, theirs: &str, ours: &str, cut: bool) -> String {
-    let mut text = "handed in: ".to_string();
+    let mut text = "the first difference, handed in: ".to_string();
     push_feeder(&mut text, &case.feeder);
     text += "\nsteps:";
     for step in &case.steps {
