@@ -92,7 +92,10 @@ impl Feeder {
     fn gather(&mut self, chunk: &[u8], end: usize) -> usize {
         let held = self.held().len();
         let taken = chunk.len().min(end.saturating_sub(held));
-        self.bytes[held..held + taken].copy_from_slice(&chunk[..taken]);
+        // For so few bytes a loop takes less time than copy_from_slice.
+        for (place, byte) in self.bytes[held..].iter_mut().zip(&chunk[..taken]) {
+            *place = *byte;
+        }
         self.count += taken as u64;
         taken
     }
