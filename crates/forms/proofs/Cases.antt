@@ -1,12 +1,14 @@
--- Computed cases: what document 01's P1, P2, P6 and P7 say ('Both sides of each edge'), two profiles, and bytes that are no item or no profile, each range at its first value outside.
+-- Computed cases: what document 01's P1, P2, P6 and P7 say ('Both sides of each edge'), two profiles, and bytes that are no item or no profile, each range at its first value outside; and document 02's T-02 at its edges.
 -- `edges` is a list of bytes and what they read as: the one statement over P1 to P10 takes it up.
 use Prim.Native.Nat.{ℕ}
 use mathlib.Core.Path.{_≡_, refl}
 use mathlib.Core.List.{List, [], _∷_, _++_, map}
 use mathlib.Core.Bool.{true, false}
 use lib.ListN.{replicate}
-use Rattle.forms.specs.Bytes.{all, leads, same}
+use Rattle.forms.specs.Bytes.{pad, all, leads, same}
+use Rattle.forms.specs.Framing.{framingOf}
 use Rattle.forms.specs.Item.{itemBytes, itemInRange, restAt, bodyFrom, bodyOf, itemOf, isItem, readItem, entryOf, readEntry}
+use Rattle.forms.specs.Feeder.{gathered, holding, newFeeder, stoppedFeeder, isClosed, takeOf, withoutItem, feedOf, resetOf}
 use Rattle.forms.specs.Profile.{Profile, fieldsOf, profileBytes, profileInRange, numbersAt, numbersEnd, viewAt, viewOf, profileOf, isProfile, readProfile, matches}
 use Rattle.forms.specs.declared.item.Leg.the-variants.{Two}
 use Rattle.forms.specs.declared.item.Body.{Body}
@@ -14,6 +16,8 @@ use Rattle.forms.specs.declared.item.Body.the-variants as B
 use Rattle.forms.specs.declared.item.ReadItem.{ReadItem}
 use Rattle.forms.specs.declared.item.ReadItem.the-variants as R
 use Rattle.forms.specs.declared.item.ReadEntry.the-variants as E
+use Rattle.forms.specs.declared.feeder.Feeder.{Feeder}
+use Rattle.forms.specs.declared.feeder.Outcome.the-variants as O
 use Rattle.forms.specs.declared.profile.Handling.the-variants.{Continue, Release}
 use Rattle.forms.specs.declared.profile.Criterion.the-variants.{Absent, Enabling, Inhibiting}
 use Rattle.forms.specs.declared.profile.ReadProfile.the-variants as P
@@ -124,3 +128,30 @@ badProfiles =
 pub bad-profiles-refused : map readProfile badProfiles ≡ map (λ (s : List ℕ). P.Refused 2) badProfiles
 unfolding all same fieldsOf profileBytes profileInRange numbersAt numbersEnd viewAt profileOf isProfile readProfile
 bad-profiles-refused = refl
+
+-- T-02: length fields 13, 14, 65 and 66, and a byte more, for a new feeder
+pub length-fields :
+    map (λ (n : ℕ). feedOf newFeeder (0 ∷ n ∷ 9 ∷ [])) (13 ∷ 14 ∷ 65 ∷ 66 ∷ [])
+    ≡ withoutItem stoppedFeeder 2 (O.Refused 1)
+    ∷ withoutItem (holding (gathered (0 ∷ 14 ∷ 9 ∷ []))) 3 O.UsedUp
+    ∷ withoutItem (holding (gathered (0 ∷ 65 ∷ 9 ∷ []))) 3 O.UsedUp
+    ∷ withoutItem stoppedFeeder 2 (O.Refused 1)
+    ∷ []
+unfolding framingOf isClosed takeOf feedOf
+length-fields = refl
+
+-- feeders handed in that are 15: stopped, also with an unfinished item; with a length of 13 and of 66; with a whole item's bytes, and with more than there is room for
+abbrev closedFeeders : List Feeder
+closedFeeders =
+    stoppedFeeder ∷ record { held = gathered (0 ∷ 14 ∷ 1 ∷ []); stopped = true }
+    ∷ holding (gathered (0 ∷ 13 ∷ [])) ∷ holding (gathered (0 ∷ 66 ∷ 1 ∷ []))
+    ∷ holding (gathered (0 ∷ 14 ∷ replicate 12 0)) ∷ holding (gathered (0 ∷ 65 ∷ replicate 63 0)) ∷ holding (record { bytes = pad 65 (0 ∷ 65 ∷ []); count = 66 })
+    ∷ []
+
+pub closed-refused : map (λ (f : Feeder). feedOf f (1 ∷ [])) closedFeeders ≡ map (λ (f : Feeder). withoutItem f 0 (O.Refused 15)) closedFeeders
+unfolding framingOf isClosed takeOf feedOf
+closed-refused = refl
+
+pub closed-reset : map resetOf closedFeeders ≡ map (λ (f : Feeder). record { feeder = newFeeder; bytes = 0 }) closedFeeders
+unfolding framingOf isClosed resetOf
+closed-reset = refl

@@ -10,8 +10,8 @@ use lib.ListN.{length, take, drop, replicate, length-append, length-replicate, l
 use lib.Seq.{sets, sets-eq, take-append-seam}
 use lib.Dec.{ltb, leb}
 use Rattle.forms.specs.Bytes.{fromBytes, pad, within}
-use Rattle.forms.specs.Framing.{framingAs, framingOf, itemFraming}
-use Rattle.forms.specs.Feeder.{bytesOf, begins, isShort, isClosed, takenAs, takeOf, feedOf}
+use Rattle.forms.specs.Framing.{framingAs, framingOf, itemFraming, isShort}
+use Rattle.forms.specs.Feeder.{bytesOf, begins, isClosed, takenAs, takeOf, feedOf}
 use Rattle.forms.specs.declared.framing.Framing.{Framing}
 use Rattle.forms.specs.declared.framing.Framing.the-variants as F
 use Rattle.forms.specs.declared.feeder.Feeder.{Feeder}

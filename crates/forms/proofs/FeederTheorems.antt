@@ -9,9 +9,9 @@ use native.Mathlib.Omega.{arith}
 use lib.ListN.{length, take, drop, length-append, length-drop, List·getD-append}
 use lib.Seq.{take-append-seam, drop-append-seam, take-append-le, drop-append-le, take-append-add, drop-append-add}
 use Rattle.forms.specs.Bytes.{fromBytes, pad, within}
-use Rattle.forms.specs.Framing.{framingAs, framingOf, itemFraming}
+use Rattle.forms.specs.Framing.{framingAs, framingOf, itemFraming, isShort}
 use Rattle.forms.specs.Item.{itemBytes, itemInRange, restAt, itemOf, isItem, readItem}
-use Rattle.forms.specs.Feeder.{bytesOf, gathered, holding, newFeeder, stoppedFeeder, begins, isShort, isClosed, takenAs, takeOf, withoutItem, completed, completedAs, fedAs, feedOf, resetOf, Placed, Got, nothingBut, andThen, isAnswer, offered, chunkFed, chunksFed, joined}
+use Rattle.forms.specs.Feeder.{bytesOf, gathered, holding, newFeeder, stoppedFeeder, begins, isClosed, takenAs, takeOf, withoutItem, completed, completedAs, fedAs, feedOf, resetOf, Placed, Got, nothingBut, andThen, isAnswer, offered, chunkFed, chunksFed, joined}
 use Rattle.forms.specs.declared.framing.Framing.{Framing}
 use Rattle.forms.specs.declared.framing.Framing.the-variants as F
 use Rattle.forms.specs.declared.item.Item.{Item}

@@ -5,7 +5,7 @@ use mathlib.Core.Bool.{Bool, true, false, _||_, not, cond}
 use lib.ListN.{length, take, drop}
 use lib.Dec.{eqb}
 use Rattle.forms.specs.Bytes.{fromBytes, pad}
-use Rattle.forms.specs.Framing.{itemFraming}
+use Rattle.forms.specs.Framing.{isShort, itemFraming}
 use Rattle.forms.specs.Item.{readItem}
 use Rattle.forms.specs.declared.framing.Framing.{Framing}
 use Rattle.forms.specs.declared.framing.Framing.the-variants as F
@@ -44,11 +44,6 @@ stoppedFeeder = record { held = gathered []; stopped = true }
 -- what a run of bytes begins with: an item not whole yet, a length field outside 14..65, or a whole item
 abbrev pub begins : List ℕ → Framing
 begins s = itemFraming (length s) (fromBytes 2 s)
-
-abbrev pub isShort : Framing → Bool
-isShort F.Short = true
-isShort F.Bad = false
-isShort (F.Whole n) = false
 
 -- refusal 15: "feeder stopped, or handed in holding a length outside 14..65 or a whole item's bytes or more"
 unfoldable pub isClosed : Feeder → Bool

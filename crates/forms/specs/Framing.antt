@@ -17,6 +17,11 @@ framingAs false true true n = F.Whole n
 unfoldable pub framingOf : ℕ → ℕ → ℕ → ℕ → Framing
 framingOf low high total n = framingAs (ltb total 2) (within low high n) (leb n total) n
 
+abbrev pub isShort : Framing → Bool
+isShort F.Short = true
+isShort F.Bad = false
+isShort (F.Whole n) = false
+
 -- the shortest and the longest of each (`ItemTheorems.item-bounds`, `ProfileTheorems.profile-bounds`)
 abbrev pub itemFraming : ℕ → ℕ → Framing
 itemFraming = framingOf 14 65

@@ -1,11 +1,11 @@
 // Items that arrive in bits (document 02, T-02): a feeder gathers the bytes of chunks of any size, and hands out each item once it is whole.
 ghost use mathlib.Core.Path.{_≡_};
 ghost use mathlib.Core.List.{_++_, []};
-ghost use Prim.Native.Nat.{_+_, _-_, _≤_, _<_};
+ghost use Prim.Native.Nat.{_+_, _≤_};
 ghost use mathlib.Core.Bool.{not, _||_};
 ghost use lib.ListN.{length, getD};
-ghost use Rattle.forms.specs.Bytes.{fromBytes};
-ghost use Rattle.forms.specs.Feeder.{gathered, holding, newFeeder, stoppedFeeder, begins, isShort, isClosed, takenAs, takeOf, withoutItem, completed, fedAs, feedOf, resetOf};
+ghost use Rattle.forms.specs.Framing.{isShort};
+ghost use Rattle.forms.specs.Feeder.{gathered, holding, newFeeder, stoppedFeeder, begins, takenAs, takeOf, withoutItem, completed, fedAs, feedOf, resetOf};
 use crate::bytes;
 use crate::framing;
 use crate::framing::Framing;
@@ -70,6 +70,7 @@ fn join(h: &[u8], c: &[u8]) -> Gathered
     Gathered { bytes, count }
 }
 
+// No bytes.
 fn nothing() -> Gathered
     ensures { λ r. ⌜ r ≡ gathered [] ⌝ }
 {
@@ -124,21 +125,11 @@ fn begin(h: &[u8], c: &[u8]) -> Framing
     framing::of_item(h.len() + c.len(), n)
 }
 
-fn is_short(f: Framing) -> bool
-    ensures { λ r. ⌜ r ≡ isShort f ⌝ }
-{
-    match f {
-        Framing::Short => true,
-        Framing::Bad => false,
-        Framing::Whole(n) => false,
-    }
-}
-
 // Refusal 15, of a feeder that holds h.
 fn is_closed(stopped: bool, h: &[u8]) -> bool
     ensures { λ r. ⌜ r ≡ (stopped || not (isShort (begins (now (h .entry))))) ⌝ }
 {
-    stopped | !is_short(framing::of_item(h.len(), bytes::number2(h)))
+    stopped | !framing::is_short(framing::of_item(h.len(), bytes::number2(h)))
 }
 
 // What is taken of a chunk behind the bytes h.
@@ -166,6 +157,7 @@ pub fn take(f: Feeder, chunk: &[u8]) -> Taken
     }
 }
 
+// An outcome that hands out no item.
 fn without_item(feeder: Feeder, used: usize, outcome: Outcome) -> Fed
     ensures { λ r. ⌜ r ≡ withoutItem feeder used outcome ⌝ }
 {

@@ -1,12 +1,22 @@
 // Where a form ends in a run of bytes (document 01, Forms: "Two bytes total length"). Said once, for items and profiles.
 ghost use mathlib.Core.Path.{_≡_};
-ghost use Rattle.forms.specs.Framing.{framingOf, itemFraming, profileFraming};
+ghost use Rattle.forms.specs.Framing.{framingOf, isShort, itemFraming, profileFraming};
 
 // What a run of bytes begins with: a form that is not whole yet, a length that no form has, or a form of so many bytes.
 pub enum Framing {
     Short,
     Bad,
     Whole(usize),
+}
+
+pub fn is_short(f: Framing) -> bool
+    ensures { λ r. ⌜ r ≡ isShort f ⌝ }
+{
+    match f {
+        Framing::Short => true,
+        Framing::Bad => false,
+        Framing::Whole(n) => false,
+    }
 }
 
 // `total` bytes whose first two are the number n, where forms have low..high bytes.

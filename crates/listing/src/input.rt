@@ -36,14 +36,6 @@ fn read_to(s: &mut [u8], at: usize) -> usize
     at + io::count(got, part)
 }
 
-fn is_short(f: Framing) -> bool {
-    match f {
-        Framing::Short => true,
-        Framing::Bad => false,
-        Framing::Whole(_) => false,
-    }
-}
-
 // What the first `end` bytes begin with.
 fn profile_in(s: &[u8], end: usize) -> Framing {
     framing::of_profile(end, bytes::number2(s))
@@ -54,7 +46,7 @@ fn fill(s: &mut [u8]) -> usize
     requires { ⌜ 32768 ≤ length (now s) ⌝ }
 {
     let mut e = 0;
-    while is_short(profile_in(s, e)) {
+    while framing::is_short(profile_in(s, e)) {
         let more = read_to(s, e);
         if more <= e {
             return e;
