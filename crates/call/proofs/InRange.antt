@@ -8,7 +8,7 @@ use native.Mathlib.Omega.{arith}
 use lib.Dec.{leb, eqb}
 use lib.ListN.{length, getD, drop, set}
 use borrow.Author.Tests.{leb-true, ltb-false, le-leb, eq-eqb, eqb-true, not-false}
-use Rattle.forms.specs.Bytes.{within, all, same, pad}
+use Rattle.forms.specs.Bytes.{all, same, pad}
 use Rattle.forms.specs.Fields.{Field, byte, nature, digitCount, isDigit, allInRange}
 use Rattle.forms.specs.Item.{formOf, restInRange, itemInRange}
 use Rattle.forms.specs.Profile.{fieldsOf, profileBytes, senseInRange, profileInRange, profileOf, isProfile}

@@ -12,8 +12,7 @@ use lib.Seq.{drop-cons, drop-drop, take-suc-set, set-getD}
 use borrow.Author.Tests.{ltb-true, ltb-false, lt-ltb, le-ltb}
 use Rattle.forms.specs.Fields.{isDigit, allInRange}
 use Rattle.forms.specs.Bytes.{pad}
-use Rattle.forms.specs.Item.{entryOf}
-use Rattle.forms.specs.Item.{formOf, restInRange, itemInRange}
+use Rattle.forms.specs.Item.{formOf, restInRange, itemInRange, entryOf}
 use Rattle.forms.specs.Profile.{viewOf, profileOf, isProfile, readProfile}
 use Rattle.forms.specs.Units.{clockEnd}
 use Rattle.call.specs.Types.{Entry, Item, Tenths, Mode, Arming, Named, Record, Check}

@@ -81,7 +81,7 @@ pub(crate) fn show_fed(fed: Fed) {
 pub(crate) fn show_dropped(d: Dropped) {
     let feeder = d.feeder;
     put(b"reset ");
-    put_number(d.bytes as u64);
+    put_number(d.count as u64);
     put_left(feeder);
 }
 

@@ -8,11 +8,13 @@ use native.Mathlib.Numerals.{add-one}
 use native.Mathlib.Nat.{pow-suc, add-zero, add-suc, suc-add}
 use lib.ListN.{length, getD, drop, set, drop-of-length-le, length-append}
 use native.Mathlib.Omega.{arith}
-use lib.Dec.{eqb, ltb}
+use lib.Dec.{eqb, leb, ltb}
 use lib.Seq.{drop-cons, getD-at, sets}
-use borrow.Author.Tests.{eq-eqb, ne-eqb, eqb-true, ltb-true, ltb-false}
-use Rattle.forms.specs.Bytes.{toBytes, fromBytes, all, contains, leads, same}
+use borrow.Author.Tests.{eq-eqb, ne-eqb, eqb-true, ltb-true, ltb-false, le-ltb, le-leb}
+use Rattle.forms.specs.Bytes.{toBytes, fromBytes, within, all, contains, leads, same}
 use Rattle.forms.specs.Fields.{frame, framed}
+use Rattle.forms.specs.Framing.{framingAs, framingOf}
+use Rattle.forms.specs.declared.framing.Framing.the-variants as F
 
 -- ---- tests
 
@@ -145,6 +147,19 @@ framed-same b (x ∷ y ∷ z ∷ s) = go (same b s) refl
         let n : 3 + length s ≡ length (x ∷ y ∷ z ∷ s) = omega arith in
         rw (e, same-true b s e, n) (simp and-true)
     go false e = simp (e, and-false)
+
+-- a framed run of low..high bytes is found whole
+pub framed-whole : (low high : ℕ) {b s : List ℕ} → framed b ≡ s → low ≤ length s → length s ≤ high → high < 65536 → framingOf low high (length s) (fromBytes 2 s) ≡ F.Whole (length s)
+unfolding framingOf
+framed-whole low high {b} e l u h = rw (← e) (go (rw (← e) at l) (rw (← e) at u))
+  where
+    n : ℕ
+    n = length (framed b)
+
+    go : low ≤ n → n ≤ high → framingAs (ltb n 2) (within low high (fromBytes 2 (framed b))) (leb (fromBytes 2 (framed b)) n) (fromBytes 2 (framed b)) ≡ F.Whole n
+    go l u =
+        let k : fromBytes 2 (framed b) ≡ n = omega arith in
+        rw (k, le-ltb n 2 (omega arith), le-leb low n l, le-leb n high u, le-leb n n (omega arith))
 
 -- ---- numbers in w bytes
 

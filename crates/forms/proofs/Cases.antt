@@ -140,18 +140,23 @@ pub length-fields :
 unfolding framingOf isClosed takeOf feedOf
 length-fields = refl
 
--- feeders handed in that are 15: stopped, also with an unfinished item; with a length of 13 and of 66; with a whole item's bytes, and with more than there is room for
+-- a malformed item, of version 2: answered 1, and not handed out
+pub malformed-fed : feedOf newFeeder (item 14 2 6 []) ≡ withoutItem newFeeder 14 (O.Refused 1)
+unfolding all same itemBytes itemInRange restAt bodyFrom bodyOf itemOf isItem readItem framingOf isClosed takeOf feedOf
+malformed-fed = refl
+
+-- feeders handed in that are 15: stopped, also with an unfinished item; with a length of 13 and of 66; with a whole item's bytes, with one more, and with more than there is room for
 abbrev closedFeeders : List Feeder
 closedFeeders =
     stoppedFeeder ∷ record { held = gathered (0 ∷ 14 ∷ 1 ∷ []); stopped = true }
     ∷ holding (gathered (0 ∷ 13 ∷ [])) ∷ holding (gathered (0 ∷ 66 ∷ 1 ∷ []))
-    ∷ holding (gathered (0 ∷ 14 ∷ replicate 12 0)) ∷ holding (gathered (0 ∷ 65 ∷ replicate 63 0)) ∷ holding (record { bytes = pad 65 (0 ∷ 65 ∷ []); count = 66 })
+    ∷ holding (gathered (0 ∷ 14 ∷ replicate 12 0)) ∷ holding (gathered (0 ∷ 14 ∷ replicate 13 0)) ∷ holding (gathered (0 ∷ 65 ∷ replicate 63 0)) ∷ holding (record { bytes = pad 65 (0 ∷ 65 ∷ []); count = 66 })
     ∷ []
 
 pub closed-refused : map (λ (f : Feeder). feedOf f (1 ∷ [])) closedFeeders ≡ map (λ (f : Feeder). withoutItem f 0 (O.Refused 15)) closedFeeders
 unfolding framingOf isClosed takeOf feedOf
 closed-refused = refl
 
-pub closed-reset : map resetOf closedFeeders ≡ map (λ (f : Feeder). record { feeder = newFeeder; bytes = 0 }) closedFeeders
+pub closed-reset : map resetOf closedFeeders ≡ map (λ (f : Feeder). record { feeder = newFeeder; count = 0 }) closedFeeders
 unfolding framingOf isClosed resetOf
 closed-reset = refl

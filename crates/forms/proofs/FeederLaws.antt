@@ -5,7 +5,7 @@ use mathlib.Core.List.{List, [], _∷_, _++_}
 use mathlib.Core.Bool.{Bool, true, false, _||_, not, cond, false≢true}
 use native.Mathlib.Nat.{zero-add}
 use native.Mathlib.Omega.{arith}
-use borrow.Author.Tests.{ltb-true, ltb-false, leb-true, leb-false, not-false}
+use borrow.Author.Tests.{ltb-true, ltb-false, leb-true, leb-false}
 use lib.ListN.{length, take, drop, replicate, length-append, length-replicate, length-take}
 use lib.Seq.{sets, sets-eq, take-append-seam}
 use lib.Dec.{ltb, leb}
@@ -78,7 +78,7 @@ open-short f e = go (f .stopped) (begins (bytesOf (f .held))) e
     go false F.Bad h = absurd (false≢true (sym h))
     go false (F.Whole n) h = absurd (false≢true (sym h))
 
--- what is taken of a chunk has room in 65 places behind the bytes that are held
+-- what is told by what is taken of a chunk: refusal 15, a bad length, or room in 65 places behind the bytes that are held
 abbrev pub Room : Feeder → List ℕ → Taken → Type 0
 Room f c T.Closed = isClosed f ≡ true
 Room f c (T.Bad n) = begins (bytesOf (f .held) ++ c) ≡ F.Bad

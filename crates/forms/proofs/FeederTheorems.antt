@@ -1,6 +1,6 @@
--- The theorems of the feeder (document 02, T-02): however a run of bytes is cut into chunks, it gets the same; as many calls as there are bytes are enough; items written one behind the other are handed out once each, in order.
+-- The theorems of the feeder (document 02, T-02): however a run of bytes is cut into chunks, it gets the same; one call more than a chunk has bytes is enough; items written one behind the other are handed out once each, in order.
 use Prim.Native.Nat.{ℕ, zero, suc, _+_, _-_, _≤_, _<_}
-use mathlib.Core.Path.{_≡_, refl, sym, ap, _∙_, subst}
+use mathlib.Core.Path.{_≡_, refl, sym, ap, _∙_}
 use mathlib.Core.List.{List, [], _∷_, _++_, append-assoc, append-nil}
 use mathlib.Core.Bool.{Bool, true, false, _&&_, cond, false≢true}
 use mathlib.Core.Logic.{_⊎_, inl, inr}
@@ -8,10 +8,10 @@ use native.Mathlib.Nat.{add-zero}
 use native.Mathlib.Omega.{arith}
 use lib.ListN.{length, take, drop, length-append, length-drop, List·getD-append}
 use lib.Seq.{take-append-seam, drop-append-seam, take-append-le, drop-append-le, take-append-add, drop-append-add}
-use Rattle.forms.specs.Bytes.{fromBytes, pad, within}
-use Rattle.forms.specs.Framing.{framingAs, framingOf, itemFraming, isShort}
+use Rattle.forms.specs.Bytes.{fromBytes, within}
+use Rattle.forms.specs.Framing.{framingOf, isShort}
 use Rattle.forms.specs.Item.{itemBytes, itemInRange, restAt, itemOf, isItem, readItem}
-use Rattle.forms.specs.Feeder.{bytesOf, gathered, holding, newFeeder, stoppedFeeder, begins, isClosed, takenAs, takeOf, withoutItem, completed, completedAs, fedAs, feedOf, resetOf, Placed, Got, nothingBut, andThen, isAnswer, offered, chunkFed, chunksFed, joined}
+use Rattle.forms.specs.Feeder.{bytesOf, gathered, holding, newFeeder, stoppedFeeder, begins, isClosed, takenAs, takeOf, withoutItem, completed, completedAs, fedAs, feedOf, resetOf, Placed, Got, nothingBut, andThen, isAnswer, placed, offered, chunkFed, chunksFed, joined, runAs, runFrom, runOf}
 use Rattle.forms.specs.declared.framing.Framing.{Framing}
 use Rattle.forms.specs.declared.framing.Framing.the-variants as F
 use Rattle.forms.specs.declared.item.Item.{Item}
@@ -19,16 +19,13 @@ use Rattle.forms.specs.declared.item.ReadItem.{ReadItem}
 use Rattle.forms.specs.declared.item.ReadItem.the-variants as R
 use Rattle.forms.specs.declared.feeder.Feeder.{Feeder}
 use Rattle.forms.specs.declared.feeder.Taken.the-variants as T
-use Rattle.forms.specs.declared.feeder.Gathered.{Gathered}
-use Rattle.forms.specs.declared.feeder.Outcome.{Outcome}
 use Rattle.forms.specs.declared.feeder.Outcome.the-variants as O
 use Rattle.forms.specs.declared.feeder.Fed.{Fed}
 use Rattle.forms.proofs.ByteLaws.{below-or-past, and-left, and-right}
-use Rattle.forms.proofs.ItemLaws.{item-size, item-length}
-use Rattle.forms.proofs.ItemTheorems.{read-back}
+use Rattle.forms.proofs.ItemTheorems.{read-back, item-framed}
 use Rattle.forms.proofs.FeederLaws.{pad-front, Says, told, open-short}
 use borrow.Author.Tests.{le-ltb, le-leb, ltb-true}
-use lib.Dec.{ltb, leb}
+use lib.Dec.{ltb}
 
 -- ---- a longer run begins as a shorter one does, where that says what it is
 
@@ -87,24 +84,7 @@ module _ (h c : List ℕ) (short : begins h ≡ F.Short) where
       go F.Bad = refl
       go (F.Whole k) = rw held
 
--- ---- a run by itself: its items and answers 1, each from where the last one ended
-
--- what a whole item of the bytes s is answered, at its place
-abbrev answered : ℕ → Outcome → Gathered → List Placed
-answered p o g = record { outcome = o; bytes = g; place = p } ∷ []
-
-abbrev itemAt : ℕ → List ℕ → List Placed
-itemAt p s = answered p (completed 0 s .outcome) (completed 0 s .bytes)
-
--- the run s, whose first byte stands at place q, in n turns
-abbrev runAs : Framing → ℕ → List ℕ → (ℕ → Got) → Got
-runAs F.Short q s next = nothingBut (holding (gathered s))
-runAs F.Bad q s next = andThen (answered (q + 2) (O.Refused 1) (gathered [])) (nothingBut stoppedFeeder)
-runAs (F.Whole k) q s next = andThen (itemAt (q + k) (take k s)) (next k)
-
-unfoldable runOf : ℕ → ℕ → List ℕ → Got
-runOf zero q s = nothingBut newFeeder
-runOf (suc n) q s = runAs (begins s) q s (λ (k : ℕ). runOf n (q + k) (drop k s))
+-- ---- one chunk
 
 -- a stopped feeder answers nothing more
 stopped-offered : (n p : ℕ) (c : List ℕ) → offered n stoppedFeeder p c ≡ nothingBut stoppedFeeder
@@ -117,21 +97,19 @@ unfolding chunksFed
 stopped-chunks p [] = refl
 stopped-chunks p (c ∷ cs) = rw (stopped-offered (suc (length c)) p c, stopped-chunks (p + length c) cs)
 
--- one call of those that offer a chunk again, of which r came
+-- a call of those that offer a chunk again, with r its answer
 abbrev afterCall : ℕ → ℕ → List ℕ → Fed → Got
-afterCall n p c r =
-    cond (isAnswer (r .outcome))
-    (andThen (answered (p + r .used) (r .outcome) (r .bytes)) (offered n (r .feeder) (p + r .used) (drop (r .used) c)))
-    (nothingBut (r .feeder))
+afterCall n p c r = cond (isAnswer (r .outcome)) (andThen (placed r (p + r .used)) (offered n (r .feeder) (p + r .used) (drop (r .used) c))) (nothingBut (r .feeder))
 
 -- a whole item is an answer, and feeding goes on as new
-whole-call : (n p : ℕ) (c : List ℕ) (u : ℕ) (s : List ℕ) → afterCall n p c (completed u s) ≡ andThen (itemAt (p + u) s) (offered n newFeeder (p + u) (drop u c))
+whole-call : (n p u k : ℕ) (c s : List ℕ) → afterCall n p c (completed u s) ≡ andThen (placed (completed k s) (p + u)) (offered n newFeeder (p + u) (drop u c))
 unfolding readItem
-whole-call n p c u s = go (isItem (itemOf s) s)
+whole-call n p u k c s = go (isItem (itemOf s) s)
   where
-    go : (b : Bool)
-        → afterCall n p c (completedAs (cond b (R.Item (itemOf s) (restAt (itemOf s .body))) (R.Refused 1)) u s)
-        ≡ andThen (answered (p + u) (completedAs (cond b (R.Item (itemOf s) (restAt (itemOf s .body))) (R.Refused 1)) 0 s .outcome) (completedAs (cond b (R.Item (itemOf s) (restAt (itemOf s .body))) (R.Refused 1)) 0 s .bytes)) (offered n newFeeder (p + u) (drop u c))
+    read : Bool → ReadItem
+    read b = cond b (R.Item (itemOf s) (restAt (itemOf s .body))) (R.Refused 1)
+
+    go : (b : Bool) → afterCall n p c (completedAs (read b) u s) ≡ andThen (placed (completedAs (read b) k s) (p + u)) (offered n newFeeder (p + u) (drop u c))
     go true = refl
     go false = refl
 
@@ -140,15 +118,15 @@ unfolding framingOf
 new-short = refl
 
 -- a chunk c offered behind the bytes h of an unfinished item gets what the run of both gets by itself
-offered-run : (n m q : ℕ) (h c : List ℕ) → begins h ≡ F.Short → length c < n → length (h ++ c) < m → offered n (holding (gathered h)) (q + length h) c ≡ runOf m q (h ++ c)
-unfolding offered runOf
+offered-run : (n m q : ℕ) (h c : List ℕ) → begins h ≡ F.Short → length c < n → length (h ++ c) < m → offered n (holding (gathered h)) (q + length h) c ≡ runFrom m q (h ++ c)
+unfolding offered runFrom
 offered-run zero m q h c e l k = absurd (omega arith)
 offered-run (suc n) zero q h c e l k = absurd (omega arith)
 offered-run (suc n) (suc m) q h c e l k = ap (afterCall n (q + length h) c) (fed-open h c e) ∙ go (begins (h ++ c)) refl (offered-run n m)
   where
     go : (r : Framing) → begins (h ++ c) ≡ r
-        → ((q : ℕ) (h c : List ℕ) → begins h ≡ F.Short → length c < n → length (h ++ c) < m → offered n (holding (gathered h)) (q + length h) c ≡ runOf m q (h ++ c))
-        → afterCall n (q + length h) c (fedOn h c e r) ≡ runAs r q (h ++ c) (λ (k : ℕ). runOf m (q + k) (drop k (h ++ c)))
+        → ((q : ℕ) (h c : List ℕ) → begins h ≡ F.Short → length c < n → length (h ++ c) < m → offered n (holding (gathered h)) (q + length h) c ≡ runFrom m q (h ++ c))
+        → afterCall n (q + length h) c (fedOn h c e r) ≡ runAs r q (h ++ c) (λ (k : ℕ). runFrom m (q + k) (drop k (h ++ c)))
     go F.Short b ih = refl
     go F.Bad b ih =
         let p : q + length h + (2 - length h) ≡ q + 2 = omega (arith, before-bad h c e b) in
@@ -164,22 +142,22 @@ offered-run (suc n) (suc m) q h c e l k = ap (afterCall n (q + length h) c) (fed
         let w = drop j (h ++ c) in
         let v = length-drop j (h ++ c) in
         let z = length-append h c in
-        let next : offered n newFeeder (q + j) w ≡ runOf m (q + j) w =
+        let next : offered n newFeeder (q + j) w ≡ runFrom m (q + j) w =
         ap (λ (k : ℕ). offered n newFeeder k w) (sym (add-zero (q + j))) ∙ ih (q + j) [] w new-short (omega arith) (omega arith) in
-        whole-call n (q + length h) c u (h ++ take u c) ∙ rw (s, p, d) (ap (andThen (itemAt (q + j) (take j (h ++ c)))) next)
+        whole-call n (q + length h) u j c (h ++ take u c) ∙ rw (s, p, d) (ap (andThen (placed (completed j (take j (h ++ c))) (q + j))) next)
 
 -- ---- chunks one after the other
 
-run-short : (n q : ℕ) (h : List ℕ) → begins h ≡ F.Short → nothingBut (holding (gathered h)) ≡ runOf (suc n) q (h ++ [])
-unfolding runOf
+run-short : (n q : ℕ) (h : List ℕ) → begins h ≡ F.Short → nothingBut (holding (gathered h)) ≡ runFrom (suc n) q (h ++ [])
+unfolding runFrom
 run-short n q h e = rw (append-nil h, e)
 
 -- where a chunk's run w is done with, the chunks behind it get what the run of all gets
 then-chunks : (cs : List (List ℕ))
-    → ((m q : ℕ) (h : List ℕ) → begins h ≡ F.Short → length (h ++ joined cs) < m → chunksFed (holding (gathered h)) (q + length h) cs ≡ runOf m q (h ++ joined cs))
+    → ((m q : ℕ) (h : List ℕ) → begins h ≡ F.Short → length (h ++ joined cs) < m → chunksFed (holding (gathered h)) (q + length h) cs ≡ runFrom m q (h ++ joined cs))
     → (n m q : ℕ) (w : List ℕ) → length w < n → length (w ++ joined cs) < m
-    → andThen (runOf n q w .answers) (chunksFed (runOf n q w .left) (q + length w) cs) ≡ runOf m q (w ++ joined cs)
-unfolding runOf
+    → andThen (runFrom n q w .answers) (chunksFed (runFrom n q w .left) (q + length w) cs) ≡ runFrom m q (w ++ joined cs)
+unfolding runFrom
 then-chunks cs all zero m q w l k = absurd (omega arith)
 then-chunks cs all (suc n) zero q w l k = absurd (omega arith)
 then-chunks cs all (suc n) (suc m) q w l k = go (begins w) refl (then-chunks cs all n m)
@@ -188,11 +166,11 @@ then-chunks cs all (suc n) (suc m) q w l k = go (begins w) refl (then-chunks cs 
     d = joined cs
 
     next : ℕ → Got
-    next j = runOf n (q + j) (drop j w)
+    next j = runFrom n (q + j) (drop j w)
 
     go : (r : Framing) → begins w ≡ r
-        → ((q : ℕ) (w : List ℕ) → length w < n → length (w ++ d) < m → andThen (runOf n q w .answers) (chunksFed (runOf n q w .left) (q + length w) cs) ≡ runOf m q (w ++ d))
-        → andThen (runAs r q w next .answers) (chunksFed (runAs r q w next .left) (q + length w) cs) ≡ runOf (suc m) q (w ++ d)
+        → ((q : ℕ) (w : List ℕ) → length w < n → length (w ++ d) < m → andThen (runFrom n q w .answers) (chunksFed (runFrom n q w .left) (q + length w) cs) ≡ runFrom m q (w ++ d))
+        → andThen (runAs r q w next .answers) (chunksFed (runAs r q w next .left) (q + length w) cs) ≡ runFrom (suc m) q (w ++ d)
     go F.Short b ih = all (suc m) q w b k
     go F.Bad b ih = rw (stopped-chunks (q + length w) cs, more w d F.Bad b refl)
     go (F.Whole j) b ih =
@@ -202,27 +180,32 @@ then-chunks cs all (suc n) (suc m) q w l k = go (begins w) refl (then-chunks cs 
         let y = length-append (drop j w) d in
         let i : j ≤ length w = omega arith in
         let p : q + length w ≡ q + j + length (drop j w) = omega arith in
-        rw (more w d (F.Whole j) b refl, take-append-le j w d i, drop-append-le j w d i, p) (ap (andThen (itemAt (q + j) (take j w))) (ih (q + j) (drop j w) (omega arith) (omega arith)))
+        rw (more w d (F.Whole j) b refl, take-append-le j w d i, drop-append-le j w d i, p) (ap (andThen (placed (completed j (take j w)) (q + j))) (ih (q + j) (drop j w) (omega arith) (omega arith)))
 
-chunks-run : (cs : List (List ℕ)) (m q : ℕ) (h : List ℕ) → begins h ≡ F.Short → length (h ++ joined cs) < m → chunksFed (holding (gathered h)) (q + length h) cs ≡ runOf m q (h ++ joined cs)
+chunks-run : (cs : List (List ℕ)) (m q : ℕ) (h : List ℕ) → begins h ≡ F.Short → length (h ++ joined cs) < m → chunksFed (holding (gathered h)) (q + length h) cs ≡ runFrom m q (h ++ joined cs)
 unfolding chunksFed joined
 chunks-run [] zero q h e l = absurd (omega arith)
 chunks-run [] (suc m) q h e l = run-short m q h e
 chunks-run (c ∷ cs) m q h e l =
     let n = suc (length (h ++ c)) in
-    let g : chunkFed (holding (gathered h)) (q + length h) c ≡ runOf n q (h ++ c) = offered-run (suc (length c)) n q h c e (omega arith) (omega arith) in
+    let g : chunkFed (holding (gathered h)) (q + length h) c ≡ runFrom n q (h ++ c) = offered-run (suc (length c)) n q h c e (omega arith) (omega arith) in
     let p : q + length h + length c ≡ q + length (h ++ c) = omega (arith, length-append h c) in
     rw (g, p, ← append-assoc h c (joined cs)) (then-chunks cs (chunks-run cs) n m q (h ++ c) (omega arith) (rw (append-assoc h c (joined cs)) l))
 
 -- ---- the theorems
 
--- "However a byte run fed after a reset is cut, the items, the answers 1 and their places are the same as for one chunk, its rest offered again."; so is the feeder left
+-- however a run is cut that is fed after a reset, it gets what it gets by itself: its items, its answers 1, their places, and the feeder left
+pub as-run : (f : Feeder) (cs : List (List ℕ)) → chunksFed (resetOf f .feeder) 0 cs ≡ runOf (joined cs)
+unfolding resetOf
+as-run f cs = chunks-run cs (suc (length (joined cs))) 0 [] new-short (omega arith)
+
+-- "However a byte run fed after a reset is cut, the items, the answers 1 and their places are the same as for one chunk, its rest offered again."
 pub cut : (f : Feeder) (cs : List (List ℕ)) → chunksFed (resetOf f .feeder) 0 cs ≡ chunkFed (resetOf f .feeder) 0 (joined cs)
 unfolding resetOf
 cut f cs =
     let s = joined cs in
     let n = suc (length s) in
-    chunks-run cs n 0 [] new-short (omega arith) ∙ sym (offered-run n n 0 [] s new-short (omega arith) (omega arith))
+    as-run f cs ∙ sym (offered-run n n 0 [] s new-short (omega arith) (omega arith))
 
 -- an answer uses a byte at least, and no more than the chunk has
 pub uses : (f : Feeder) (c : List ℕ) → isAnswer (feedOf f c .outcome) ≡ true → (1 ≤ feedOf f c .used) × (feedOf f c .used ≤ length c)
@@ -266,7 +249,7 @@ enough (suc n) (suc m) f p c l k = go (isAnswer (r .outcome)) refl (enough n m)
     q = p + r .used
 
     one : List Placed
-    one = answered q (r .outcome) (r .bytes)
+    one = placed r q
 
     go : (x : Bool) → isAnswer (r .outcome) ≡ x
         → ((f : Feeder) (p : ℕ) (c : List ℕ) → length c < n → length c < m → offered n f p c ≡ offered m f p c)
@@ -279,22 +262,23 @@ enough (suc n) (suc m) f p c l k = go (isAnswer (r .outcome)) refl (enough n m)
 
 -- ---- "Each completed item is handed out once, in order"
 
--- an item and its digits or entries, all in range
+-- an item and its digits or entries
 pub record Sent : Type 0 where
   pub item : Item
   pub rest : List ℕ
 
+-- all of it in range; the call in four bytes
 abbrev pub inRange : Sent → Bool
 inRange x = itemInRange (x .item) (x .rest) && ltb (x .item .call) 4294967296
 
-abbrev pub allSent : List Sent → Bool
-allSent [] = true
-allSent (x ∷ xs) = inRange x && allSent xs
+abbrev pub allInRange : List Sent → Bool
+allInRange [] = true
+allInRange (x ∷ xs) = inRange x && allInRange xs
 
 -- written one behind the other; and each handed out at its place, with its bytes, where the first begins at place q
-abbrev pub written : List Sent → List ℕ
-written [] = []
-written (x ∷ xs) = itemBytes (x .item) (x .rest) ++ written xs
+abbrev pub sentBytes : List Sent → List ℕ
+sentBytes [] = []
+sentBytes (x ∷ xs) = itemBytes (x .item) (x .rest) ++ sentBytes xs
 
 abbrev pub handedOut : ℕ → List Sent → List Placed
 handedOut q [] = []
@@ -302,40 +286,22 @@ handedOut q (x ∷ xs) =
     let b = itemBytes (x .item) (x .rest) in
     record { outcome = O.Item (x .item) (restAt (x .item .body)); bytes = gathered b; place = q + length b } ∷ handedOut (q + length b) xs
 
-item-number : (i : Item) (t : List ℕ) → length (itemBytes i t) ≤ 65 → fromBytes 2 (itemBytes i t) ≡ length (itemBytes i t)
-unfolding itemBytes
-item-number i t h = omega arith
-
--- the first two bytes of an item are its length, which is in 14..65
-item-begins : (i : Item) (t : List ℕ) → itemInRange i t ≡ true → begins (itemBytes i t) ≡ F.Whole (length (itemBytes i t))
-unfolding framingOf restAt
-item-begins i t h =
-    let n = length (itemBytes i t) in
-    let z = item-length i t in
-    let y = item-size i t h in
-    let u : n ≤ 65 = omega arith in
-    let v : 14 ≤ n = omega arith in
-    rw (item-number i t u, le-ltb n 2 (omega arith), le-leb 14 n v, le-leb n 65 u, le-leb n n (omega arith))
-
-sent-run : (n q : ℕ) (xs : List Sent) → length (written xs) < n → allSent xs ≡ true → runOf n q (written xs) ≡ record { answers = handedOut q xs; left = newFeeder }
-unfolding runOf framingOf
+sent-run : (n q : ℕ) (xs : List Sent) → length (sentBytes xs) < n → allInRange xs ≡ true → runFrom n q (sentBytes xs) ≡ record { answers = handedOut q xs; left = newFeeder }
+unfolding runFrom framingOf
 sent-run zero q xs l a = absurd (omega arith)
 sent-run (suc n) q [] l a = refl
 sent-run (suc n) q (x ∷ xs) l a =
     let i = x .item in
     let t = x .rest in
     let b = itemBytes i t in
-    let w = written xs in
-    let r = and-left (inRange x) (allSent xs) a in
-    let g = and-left (itemInRange i t) (ltb (i .call) 4294967296) r in
-    let e = item-begins i t g in
+    let w = sentBytes xs in
+    let r = and-left (inRange x) (allInRange xs) a in
+    let back = read-back i t (and-left (itemInRange i t) (ltb (i .call) 4294967296) r) (ltb-true _ _ (and-right (itemInRange i t) _ r)) .0 in
+    let e = item-framed b i (restAt (i .body)) back in
     let z = length-append b w in
     let k = told b (F.Whole (length b)) e in
-    rw (more b w (F.Whole (length b)) e refl, take-append-seam b w, drop-append-seam b w, read-back i t g (ltb-true _ _ (and-right (itemInRange i t) _ r)) .0)
-    (ap (andThen (answered (q + length b) (O.Item i (restAt (i .body))) (gathered b))) (sent-run n (q + length b) xs (omega arith) (and-right (inRange x) (allSent xs) a)))
+    rw (more b w (F.Whole (length b)) e refl, take-append-seam b w, drop-append-seam b w, back)
+    (ap (andThen (placed (completedAs (R.Item i (restAt (i .body))) (length b) b) (q + length b))) (sent-run n (q + length b) xs (omega arith) (and-right (inRange x) (allInRange xs) a)))
 
-pub in-order : (f : Feeder) (xs : List Sent) (cs : List (List ℕ)) → allSent xs ≡ true → joined cs ≡ written xs → chunksFed (resetOf f .feeder) 0 cs ≡ record { answers = handedOut 0 xs; left = newFeeder }
-unfolding resetOf
-in-order f xs cs a e =
-    let n = suc (length (joined cs)) in
-    chunks-run cs n 0 [] new-short (omega arith) ∙ ap (runOf n 0) e ∙ sent-run n 0 xs (rw (← e) (omega arith)) a
+pub in-order : (f : Feeder) (xs : List Sent) (cs : List (List ℕ)) → allInRange xs ≡ true → joined cs ≡ sentBytes xs → chunksFed (resetOf f .feeder) 0 cs ≡ record { answers = handedOut 0 xs; left = newFeeder }
+in-order f xs cs a e = as-run f cs ∙ ap runOf e ∙ sent-run (suc (length (sentBytes xs))) 0 xs (omega arith) a

@@ -12,7 +12,9 @@ use Rattle.forms.specs.Bytes.{toBytes, fromBytes}
 use Rattle.forms.specs.Units.{clockEnd, isPeriod}
 use Rattle.forms.specs.Fields.{allInRange}
 use Rattle.forms.specs.Item.{formOf, fieldBytes, restInRange, itemBytes, itemInRange, restAt, restOf, bodyFrom, bodyOf, itemOf, isItem, readItem, entryBytes, entryOf, headOf}
+use Rattle.forms.specs.Framing.{itemFraming}
 use Rattle.forms.specs.Write.{writable, written, after}
+use Rattle.forms.specs.declared.framing.Framing.the-variants as F
 use Rattle.forms.specs.declared.units.Tenths.{Tenths}
 use Rattle.forms.specs.declared.item.Leg.the-variants.{One, Two}
 use Rattle.forms.specs.declared.item.Body.{Body}
@@ -21,7 +23,7 @@ use Rattle.forms.specs.declared.item.Item.{Item}
 use Rattle.forms.specs.declared.item.Entry.{Entry}
 use Rattle.forms.specs.declared.item.ReadItem.the-variants as R
 use Rattle.forms.specs.declared.write.Written.the-variants as W
-use Rattle.forms.proofs.ByteLaws.{picked, and-left, and-right, number-back, same-self}
+use Rattle.forms.proofs.ByteLaws.{picked, and-left, and-right, number-back, same-self, framed-whole}
 use Rattle.forms.proofs.ItemLaws.{item-size, item-parts, item-length, reads}
 
 -- ---- what is written reads back the same
@@ -106,6 +108,11 @@ module _ (s : List ℕ) (i : Item) (n : ℕ) (h : readItem s ≡ R.Item i n) whe
       let r = reads s i n h in
       let l : 14 + length (fieldBytes (i .body)) + length (drop n s) ≡ length s = sym (item-length i (drop n s)) ∙ ap length (r .written) in
       (omega arith, omega (arith, item-size i (drop n s) (r .inRange)))
+
+  -- and its length field says so: a run that begins with it is found to
+  pub item-framed : itemFraming (length s) (fromBytes 2 s) ≡ F.Whole (length s)
+  unfolding itemBytes
+  item-framed = framed-whole 14 65 {b = drop 3 (itemBytes i (drop n s))} one-form (item-bounds .0) (item-bounds .1) (omega arith)
 
 -- two byte runs that read as one item, with the same digits or entries, are the same bytes
 pub one-run : (s r : List ℕ) (i : Item) (m n : ℕ) → readItem s ≡ R.Item i m → readItem r ≡ R.Item i n → drop m s ≡ drop n r → s ≡ r

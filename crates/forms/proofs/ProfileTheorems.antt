@@ -8,8 +8,10 @@ use borrow.Author.Tests.{leb-true}
 use lib.ListN.{length, getD, drop, length-append}
 use lib.Seq.{drop-drop, take-append-seam, drop-append-seam}
 use lib.Dec.{leb, eqb}
-use Rattle.forms.specs.Bytes.{within, all, same}
+use Rattle.forms.specs.Bytes.{fromBytes, within, all, same}
 use Rattle.forms.specs.Fields.{bytesIn, allInRange}
+use Rattle.forms.specs.Framing.{profileFraming}
+use Rattle.forms.specs.declared.framing.Framing.the-variants as F
 use Rattle.forms.specs.Profile.{Number, Profile, handlingNumber, criterionNumber, numberFields, listFields, fieldsOf, profileBytes, senseInRange, profileInRange, handlingOf, criterionOf, listAt, listEnd, numbersAt, numbersEnd, viewAt, viewOf, profileOf, isProfile, readProfile}
 use Rattle.forms.specs.declared.profile.Handling.{Handling}
 use Rattle.forms.specs.declared.profile.Handling.the-variants as H
@@ -17,7 +19,7 @@ use Rattle.forms.specs.declared.profile.Criterion.{Criterion}
 use Rattle.forms.specs.declared.profile.Criterion.the-variants as C
 use Rattle.forms.specs.declared.profile.ProfileView.{ProfileView}
 use Rattle.forms.specs.declared.profile.ReadProfile.the-variants as R
-use Rattle.forms.proofs.ByteLaws.{picked, and-left, and-right, same-self, same-true}
+use Rattle.forms.proofs.ByteLaws.{picked, and-left, and-right, same-self, same-true, framed-whole}
 use Rattle.forms.proofs.ProfileLaws.{bytes-both, in-range-both, head-at}
 
 -- ---- what is written reads back the same
@@ -120,3 +122,8 @@ size p h =
 -- a profile is 10 to 188 bytes long
 pub profile-bounds : (s : List ℕ) (v : ProfileView) → readProfile s ≡ R.Profile v → (10 ≤ length s) × (length s ≤ 188)
 profile-bounds s v h = rw (one-form s v h) at (size (profileOf s) (reads s v h .0 .1))
+
+-- and its length field says so: a run that begins with it is found to
+pub profile-framed : (s : List ℕ) (v : ProfileView) → readProfile s ≡ R.Profile v → profileFraming (length s) (fromBytes 2 s) ≡ F.Whole (length s)
+unfolding profileBytes
+profile-framed s v h = framed-whole 10 188 {b = bytesIn (fieldsOf (profileOf s))} (one-form s v h) (profile-bounds s v h .0) (profile-bounds s v h .1) (omega arith)

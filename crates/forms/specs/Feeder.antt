@@ -46,8 +46,11 @@ abbrev pub begins : List ℕ → Framing
 begins s = itemFraming (length s) (fromBytes 2 s)
 
 -- refusal 15: "feeder stopped, or handed in holding a length outside 14..65 or a whole item's bytes or more"
+abbrev pub closedAs : Bool → List ℕ → Bool
+closedAs stopped h = stopped || not (isShort (begins h))
+
 unfoldable pub isClosed : Feeder → Bool
-isClosed f = f .stopped || not (isShort (begins (bytesOf (f .held))))
+isClosed f = closedAs (f .stopped) (bytesOf (f .held))
 
 -- what is taken of the chunk c behind the bytes h: "a call ends with the item it completes, or with the chunk"; of a length field outside 14..65 "its two bytes used"
 abbrev pub takenAs : Framing → List ℕ → Taken
@@ -83,7 +86,7 @@ feedOf f c = fedAs (takeOf f c) f c
 -- ---- "A reset drops the unfinished item and says how many bytes that was, 0 where feeding would be 15."
 
 unfoldable pub resetOf : Feeder → Dropped
-resetOf f = record { feeder = newFeeder; bytes = cond (isClosed f) 0 (length (bytesOf (f .held))) }
+resetOf f = record { feeder = newFeeder; count = cond (isClosed f) 0 (length (bytesOf (f .held))) }
 
 -- ---- a run in chunks: "However a byte run fed after a reset is cut, the items, the answers 1 and their places are the same as for one chunk, its rest offered again."
 
@@ -97,6 +100,9 @@ pub record Placed : Type 0 where
 pub record Got : Type 0 where
   pub answers : List Placed
   pub left : Feeder
+
+abbrev pub placed : Fed → ℕ → List Placed
+placed r p = record { outcome = r .outcome; bytes = r .bytes; place = p } ∷ []
 
 abbrev pub nothingBut : Feeder → Got
 nothingBut f = record { answers = []; left = f }
@@ -117,7 +123,7 @@ offered (suc n) f p c =
     let r = feedOf f c in
     let q = p + r .used in
     cond (isAnswer (r .outcome))
-    (andThen (record { outcome = r .outcome; bytes = r .bytes; place = q } ∷ []) (offered n (r .feeder) q (drop (r .used) c)))
+    (andThen (placed r q) (offered n (r .feeder) q (drop (r .used) c)))
     (nothingBut (r .feeder))
 
 -- as each answer uses a byte, one call more than there are bytes is enough (`FeederTheorems.enough`)
@@ -133,3 +139,20 @@ chunksFed f p (c ∷ cs) = let g = chunkFed f p c in andThen (g .answers) (chunk
 unfoldable pub joined : List (List ℕ) → List ℕ
 joined [] = []
 joined (c ∷ cs) = c ++ joined cs
+
+-- ---- the same run by itself, without a feeder: items and answers 1, each from where the last one ended, up to a length field outside 14..65 or an unfinished item
+
+-- the run s begins at place p, and `next k` is what follows its first k bytes
+abbrev pub runAs : Framing → ℕ → List ℕ → (ℕ → Got) → Got
+runAs F.Short p s next = nothingBut (holding (gathered s))
+runAs F.Bad p s next = andThen (placed (withoutItem stoppedFeeder 2 (O.Refused 1)) (p + 2)) (nothingBut stoppedFeeder)
+runAs (F.Whole k) p s next = andThen (placed (completed k (take k s)) (p + k)) (next k)
+
+-- in n turns at most
+unfoldable pub runFrom : ℕ → ℕ → List ℕ → Got
+runFrom zero p s = nothingBut newFeeder
+runFrom (suc n) p s = runAs (begins s) p s (λ (k : ℕ). runFrom n (p + k) (drop k s))
+
+-- as an item has 14 bytes at least, one turn more than there are bytes is enough
+abbrev pub runOf : List ℕ → Got
+runOf s = runFrom (suc (length s)) 0 s

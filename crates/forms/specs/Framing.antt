@@ -22,7 +22,7 @@ isShort F.Short = true
 isShort F.Bad = false
 isShort (F.Whole n) = false
 
--- the shortest and the longest of each (`ItemTheorems.item-bounds`, `ProfileTheorems.profile-bounds`)
+-- the shortest and the longest of each: no item and no profile is lost by it (`ItemTheorems.item-framed`, `ProfileTheorems.profile-framed`)
 abbrev pub itemFraming : ℕ → ℕ → Framing
 itemFraming = framingOf 14 65
 

@@ -1,5 +1,5 @@
 -- Document 01, Forms: items. `formOf` is its table of kinds. Reading has no rules of its own: bytes read as the item whose written form they are.
-use Prim.Native.Nat.{ℕ, zero, suc, _+_, _*_}
+use Prim.Native.Nat.{ℕ, _+_, _*_}
 use mathlib.Core.List.{List, [], _∷_, _++_}
 use mathlib.Core.Bool.{Bool, _&&_, cond}
 use lib.ListN.{length, getD, drop}

@@ -2,10 +2,8 @@
 ghost use mathlib.Core.Path.{_≡_};
 ghost use mathlib.Core.List.{_++_, []};
 ghost use Prim.Native.Nat.{_+_, _≤_};
-ghost use mathlib.Core.Bool.{not, _||_};
 ghost use lib.ListN.{length, getD};
-ghost use Rattle.forms.specs.Framing.{isShort};
-ghost use Rattle.forms.specs.Feeder.{gathered, holding, newFeeder, stoppedFeeder, begins, takenAs, takeOf, withoutItem, completed, fedAs, feedOf, resetOf};
+ghost use Rattle.forms.specs.Feeder.{gathered, holding, newFeeder, stoppedFeeder, begins, closedAs, takenAs, takeOf, withoutItem, completed, fedAs, feedOf, resetOf};
 use crate::bytes;
 use crate::framing;
 use crate::framing::Framing;
@@ -13,7 +11,7 @@ use crate::item;
 use crate::item::Item;
 use crate::item::ReadItem;
 
-// The first `count` bytes; zeros follow them.
+// The first `count` of the bytes. Those behind them mean nothing, and are zeros in what is handed out.
 pub struct Gathered {
     pub bytes: [u8; 65],
     pub count: usize,
@@ -40,7 +38,9 @@ pub enum Taken {
 pub enum Outcome {
     // The item, and the place of its digits or entries in its bytes.
     Item(Item, usize),
+    // 1 or 15.
     Refused(u8),
+    // All of the chunk was used, and no item is whole.
     UsedUp,
 }
 
@@ -55,7 +55,7 @@ pub struct Fed {
 // The next feeder, and how many bytes were dropped.
 pub struct Dropped {
     pub feeder: Feeder,
-    pub bytes: usize,
+    pub count: usize,
 }
 
 // The bytes h and c, one behind the other.
@@ -127,7 +127,7 @@ fn begin(h: &[u8], c: &[u8]) -> Framing
 
 // Refusal 15, of a feeder that holds h.
 fn is_closed(stopped: bool, h: &[u8]) -> bool
-    ensures { λ r. ⌜ r ≡ (stopped || not (isShort (begins (now (h .entry))))) ⌝ }
+    ensures { λ r. ⌜ r ≡ closedAs stopped (now (h .entry)) ⌝ }
 {
     stopped | !framing::is_short(framing::of_item(h.len(), bytes::number2(h)))
 }
@@ -222,11 +222,11 @@ pub fn reset(f: Feeder) -> Dropped
     let h = bytes::part_of(&bytes, 0, g.count);
     let feeder = new();
     if is_closed(f.stopped, h) {
-        Dropped { feeder, bytes: 0 }
+        Dropped { feeder, count: 0 }
     } else {
         Dropped {
             feeder,
-            bytes: h.len(),
+            count: h.len(),
         }
     }
 }

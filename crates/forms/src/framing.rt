@@ -15,12 +15,12 @@ pub fn is_short(f: Framing) -> bool
     match f {
         Framing::Short => true,
         Framing::Bad => false,
-        Framing::Whole(n) => false,
+        Framing::Whole(_) => false,
     }
 }
 
 // `total` bytes whose first two are the number n, where forms have low..high bytes.
-fn frame(low: usize, high: usize, total: usize, n: usize) -> Framing
+fn of_form(low: usize, high: usize, total: usize, n: usize) -> Framing
     ensures { λ r. ⌜ r ≡ framingOf low high total n ⌝ }
 {
     if total < 2 {
@@ -41,11 +41,11 @@ fn frame(low: usize, high: usize, total: usize, n: usize) -> Framing
 pub fn of_item(total: usize, n: usize) -> Framing
     ensures { λ r. ⌜ r ≡ itemFraming total n ⌝ }
 {
-    frame(14, 65, total, n)
+    of_form(14, 65, total, n)
 }
 
 pub fn of_profile(total: usize, n: usize) -> Framing
     ensures { λ r. ⌜ r ≡ profileFraming total n ⌝ }
 {
-    frame(10, 188, total, n)
+    of_form(10, 188, total, n)
 }

@@ -1,4 +1,4 @@
--- When a listing reads on: so that the bytes a feeder holds, which are at most 64, grow with each read.
+-- When a listing reads on behind the bytes that a feeder holds. Each such read adds to them, and there is room for 65: so the reading ends.
 use mathlib.Core.Bool.{Bool, true, false, _&&_}
 use Prim.Native.Nat.{ℕ}
 use mathlib.Core.List.{List}

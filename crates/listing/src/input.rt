@@ -1,5 +1,5 @@
 // Standard input: the profile, and then items through the feeder. A read may give any number of bytes; one that fails counts as the end.
-// The buffer's first half has the profile at its front and the bytes of the last read behind it; from the second read on these begin at BASE, so that the bytes that a feeder holds have room in front of them.
+// The buffer's first half has the profile at its front, and what was read with it. Later reads go to BASE, so that the bytes that a feeder holds have room in front of them.
 ghost use mathlib.Core.Path.{_≡_};
 ghost use Prim.Native.Nat.{_≤_, _-_};
 ghost use lib.ListN.{length};
@@ -82,9 +82,9 @@ fn is_unfinished(t: Taken) -> bool
 {
     match t {
         Taken::Closed => false,
-        Taken::Bad(n) => false,
+        Taken::Bad(_) => false,
         Taken::Unfinished => true,
-        Taken::Whole(n) => false,
+        Taken::Whole(_) => false,
     }
 }
 
@@ -143,17 +143,18 @@ fn put_held(s: &mut [u8], f: Feeder) -> usize
     put_before(s, bytes::part_of(&bytes, 0, g.count))
 }
 
-pub(crate) fn place_after(at: usize, n: usize) -> usize {
-    if n <= usize::MAX - at { at + n } else { at }
+// a + b. (Both are small here: tested, the sum needs no `requires`.)
+pub(crate) fn sum(a: usize, b: usize) -> usize {
+    if b <= usize::MAX - a { a + b } else { a }
 }
 
-// What was found behind so many bytes held.
+// What was found behind so many bytes held. A feeder here is new or holds an unfinished item, so it is not closed.
 fn found_of(t: Taken, held: usize) -> Framing {
     match t {
         Taken::Closed => Framing::Bad,
-        Taken::Bad(n) => Framing::Bad,
+        Taken::Bad(_) => Framing::Bad,
         Taken::Unfinished => Framing::Short,
-        Taken::Whole(n) => Framing::Whole(place_after(held, n)),
+        Taken::Whole(n) => Framing::Whole(sum(held, n)),
     }
 }
 

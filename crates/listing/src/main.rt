@@ -95,7 +95,7 @@ fn at_place(s: State, place: Place) -> State
 fn fetch(buf: &mut [u8], s: State) -> State
     ensures { λ r. ⌜ remaining r < past (s .number) ⌝ }
 {
-    let at = input::place_after(s.at, s.size);
+    let at = input::sum(s.at, s.size);
     let place = input::find_item(buf, at, s.end);
     at_place(s, place)
 }

@@ -3,8 +3,8 @@ use borrow.Author.Needs.{needs}
 use Prim.Native.Nat.{ℕ, _+_, _≤_}
 use mathlib.Core.Path.{_≡_, ap, _∙_}
 use mathlib.Core.List.{List, _++_}
-use lib.ListN.{length, take, length-append}
-use Rattle.forms.specs.Bytes.{pad, part}
+use lib.ListN.{length, length-append}
+use Rattle.forms.specs.Bytes.{part}
 use Rattle.forms.specs.Item.{readItem}
 use Rattle.forms.specs.Feeder.{gathered}
 use Rattle.forms.specs.declared.item.ReadItem.{ReadItem}

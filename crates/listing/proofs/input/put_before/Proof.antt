@@ -1,4 +1,4 @@
--- `listing::input::put_before` meets its contract: the place stays below 256 in a buffer that keeps its length.
+-- `listing::input::put_before` meets its contract: the place is 256 at most, in a buffer that keeps its length.
 use borrow.Author.Needs.{needs}
 use Prim.Native.Nat.{_≤_, _+_, _-_}
 use mathlib.Core.Path.{_≡_}

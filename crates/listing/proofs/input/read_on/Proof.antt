@@ -1,4 +1,4 @@
--- `listing::input::read_on` is safe and ends: the buffer keeps its length, and the feeder holds more bytes with each turn, at most 65.
+-- `listing::input::read_on` is safe and ends: the buffer keeps its length, and the feeder holds more bytes with each turn, of which there is room for 65.
 use borrow.Author.Needs.{needs}
 use Prim.Native.Nat.{ℕ, _≤_, _<_, _-_}
 use mathlib.Core.Path.{_≡_, refl, sym, _∙_}

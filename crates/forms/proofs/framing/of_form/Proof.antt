@@ -1,8 +1,8 @@
--- `forms::framing::frame` meets its contract: each way out answers one of the definition's tests.
+-- `forms::framing::of_form` meets its contract: each way out answers one of the definition's tests.
 use borrow.Author.Tests.{lt-ltb, le-ltb, lt-leb, le-leb}
 use Rattle.forms.specs.Framing.{framingOf}
-use Rattle.forms.proofs.framing.frame.Statement.{statement}
-use Rattle.forms.proofs.framing.frame.Tie as tie
+use Rattle.forms.proofs.framing.of_form.Statement.{statement}
+use Rattle.forms.proofs.framing.of_form.Tie as tie
 
 returns : tie.Need-returns
 unfolding framingOf
@@ -24,5 +24,5 @@ returns-5 : tie.Need-returns-5
 unfolding framingOf
 returns-5 c = rw (le-ltb _ _ (c .before .before .before .if1 .left), le-leb _ _ (c .before .before .if2 .left), le-leb _ _ (c .before .if3 .left), le-leb _ _ (c .if4 .left))
 
-pub frame-spec : {M : Type 1} → statement M
-frame-spec = tie.close (tie.spec returns returns-2 returns-3 returns-4 returns-5)
+pub of-form-spec : {M : Type 1} → statement M
+of-form-spec = tie.close (tie.spec returns returns-2 returns-3 returns-4 returns-5)
