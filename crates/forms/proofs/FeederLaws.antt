@@ -3,10 +3,11 @@ use Prim.Native.Nat.{ℕ, zero, suc, _+_, _-_, _≤_, _<_}
 use mathlib.Core.Path.{_≡_, refl, sym, ap, _∙_, subst}
 use mathlib.Core.List.{List, [], _∷_, _++_}
 use mathlib.Core.Bool.{Bool, true, false, _||_, not, cond, false≢true}
+use mathlib.Core.Logic.{_⊎_, inl, inr}
 use native.Mathlib.Nat.{zero-add}
 use native.Mathlib.Omega.{arith}
-use borrow.Author.Tests.{ltb-true, ltb-false, leb-true, leb-false}
-use lib.ListN.{length, take, drop, replicate, length-append, length-replicate, length-take}
+use borrow.Author.Tests.{ltb-true, ltb-false, leb-true, leb-false, le-ltb, le-leb}
+use lib.ListN.{length, take, drop, replicate, length-append, length-replicate, length-take, List·getD-append}
 use lib.Seq.{sets, sets-eq, take-append-seam}
 use lib.Dec.{ltb, leb}
 use Rattle.forms.specs.Bytes.{fromBytes, pad, within}
@@ -17,7 +18,7 @@ use Rattle.forms.specs.declared.framing.Framing.the-variants as F
 use Rattle.forms.specs.declared.feeder.Feeder.{Feeder}
 use Rattle.forms.specs.declared.feeder.Taken.{Taken}
 use Rattle.forms.specs.declared.feeder.Taken.the-variants as T
-use Rattle.forms.proofs.ByteLaws.{and-left, and-right, sets-then}
+use Rattle.forms.proofs.ByteLaws.{below-or-past, and-left, and-right, sets-then}
 
 -- ---- bytes in n places, zeros behind them
 
@@ -49,7 +50,7 @@ Says t n F.Short = (t < 65) × (2 ≤ t → (within 14 65 n ≡ true) × (t < n)
 Says t n F.Bad = (2 ≤ t) × (within 14 65 n ≡ false)
 Says t n (F.Whole k) = (k ≡ n) × (14 ≤ n) × (n ≤ 65) × (n ≤ t)
 
-pub says : (t n : ℕ) → Says t n (itemFraming t n)
+says : (t n : ℕ) → Says t n (itemFraming t n)
 unfolding framingOf
 says t n = go (ltb t 2) (within 14 65 n) (leb n t) refl refl refl
   where
@@ -66,6 +67,43 @@ says t n = go (ltb t 2) (within 14 65 n) (leb n t) refl refl refl
 pub told : (s : List ℕ) (r : Framing) → begins s ≡ r → Says (length s) (fromBytes 2 s) r
 told s r e = subst (Says (length s) (fromBytes 2 s)) e (says (length s) (fromBytes 2 s))
 
+-- ---- a longer run begins as a shorter one does, where that says what it is
+
+number-more : (s d : List ℕ) → 2 ≤ length s → fromBytes 2 (s ++ d) ≡ fromBytes 2 s
+number-more s d h = rw (List·getD-append s d 0 0 (omega arith), List·getD-append s d 0 1 (omega arith))
+
+pub more : (s d : List ℕ) (r : Framing) → begins s ≡ r → isShort r ≡ false → begins (s ++ d) ≡ r
+unfolding framingOf
+more s d F.Short e n = absurd (false≢true (sym n))
+more s d F.Bad e n =
+    let t = told s F.Bad e in
+    rw (number-more s d (t .0), t .1, le-ltb (length (s ++ d)) 2 (omega (arith, length-append s d, t .0)))
+more s d (F.Whole k) e n =
+    let t = told s (F.Whole k) e in
+    let z = length-append s d in
+    rw (number-more s d (omega arith), ← t .0, le-ltb (length (s ++ d)) 2 (omega arith), le-leb 14 k (omega arith), le-leb k 65 (omega arith), le-leb k (length (s ++ d)) (omega arith))
+
+-- ---- an unfinished item h, and the next chunk c
+
+module _ (h c : List ℕ) (short : begins h ≡ F.Short) where
+  -- where the two are a bad length or a whole item, it was not so before
+  pub before-bad : begins (h ++ c) ≡ F.Bad → length h < 2
+  before-bad e = go (below-or-past (length h) 2)
+    where
+      go : (length h < 2) ⊎ (2 ≤ length h) → length h < 2
+      go (inl l) = l
+      go (inr l) = absurd (false≢true (sym (sym (told h F.Short short .1 l .0) ∙ ap (within 14 65) (sym (number-more h c l)) ∙ told (h ++ c) F.Bad e .1)))
+
+  pub before-whole : (k : ℕ) → begins (h ++ c) ≡ F.Whole k → length h < k
+  before-whole k e = go (below-or-past (length h) 2)
+    where
+      t : Says (length (h ++ c)) (fromBytes 2 (h ++ c)) (F.Whole k)
+      t = told (h ++ c) (F.Whole k) e
+
+      go : (length h < 2) ⊎ (2 ≤ length h) → length h < k
+      go (inl l) = omega (arith, t .0, t .1)
+      go (inr l) = omega (arith, t .0, number-more h c l, told h F.Short short .1 l .1)
+
 -- ---- a feeder that is not closed holds an unfinished item
 
 pub open-short : (f : Feeder) → isClosed f ≡ false → begins (bytesOf (f .held)) ≡ F.Short
@@ -78,34 +116,41 @@ open-short f e = go (f .stopped) (begins (bytesOf (f .held))) e
     go false F.Bad h = absurd (false≢true (sym h))
     go false (F.Whole n) h = absurd (false≢true (sym h))
 
--- what is told by what is taken of a chunk: refusal 15, a bad length, or room in 65 places behind the bytes that are held
-abbrev pub Room : Feeder → List ℕ → Taken → Type 0
-Room f c T.Closed = isClosed f ≡ true
-Room f c (T.Bad n) = begins (bytesOf (f .held) ++ c) ≡ F.Bad
-Room f c T.Unfinished = length (bytesOf (f .held)) + length c ≤ 65
-Room f c (T.Whole n) = length (bytesOf (f .held)) + length (take n c) ≤ 65
+-- what is known by what is taken of a chunk: how many of its bytes, and that there is room for them in 65 places behind those that are held
+abbrev pub Takes : Feeder → List ℕ → Taken → Type 0
+Takes f c T.Closed = isClosed f ≡ true
+Takes f c (T.Bad n) = (1 ≤ n) × (n ≤ length c)
+Takes f c T.Unfinished = length (bytesOf (f .held)) + length c ≤ 65
+Takes f c (T.Whole n) = (1 ≤ n) × (n ≤ length c) × (length (bytesOf (f .held)) + length (take n c) ≤ 65)
 
-room : (f : Feeder) (c : List ℕ) → Room f c (takeOf f c)
+pub takes : (f : Feeder) (c : List ℕ) → Takes f c (takeOf f c)
 unfolding takeOf
-room f c = go (isClosed f) (begins (h ++ c)) refl refl
+takes f c = go (isClosed f) (begins (h ++ c)) refl refl
   where
     h : List ℕ
     h = bytesOf (f .held)
 
-    go : (x : Bool) (r : Framing) → isClosed f ≡ x → begins (h ++ c) ≡ r → Room f c (cond x T.Closed (takenAs r h))
+    go : (x : Bool) (r : Framing) → isClosed f ≡ x → begins (h ++ c) ≡ r → Takes f c (cond x T.Closed (takenAs r h))
     go true r p q = p
-    go false F.Bad p q = q
     go false F.Short p q = omega (arith, length-append h c, told (h ++ c) F.Short q .0)
+    go false F.Bad p q =
+        let l = before-bad h c (open-short f p) q in
+        let k = told (h ++ c) F.Bad q .0 in
+        let z = length-append h c in
+        (omega arith, omega arith)
     go false (F.Whole n) p q =
+        let l = before-whole h c (open-short f p) n q in
         let k = told (h ++ c) (F.Whole n) q in
-        omega (arith, length-take (n - length h) c, told h F.Short (open-short f p) .0, k .0, k .2)
+        let z = length-append h c in
+        let y = length-take (n - length h) c in
+        (omega arith, omega arith, omega arith)
 
-pub room-for : (f : Feeder) (c : List ℕ) {t : Taken} → t ≡ takeOf f c → (u : Taken) → t ≡ u → Room f c u
-room-for f c e u p = subst (Room f c) (sym e ∙ p) (room f c)
+pub takes-as : (f : Feeder) (c : List ℕ) {t : Taken} → t ≡ takeOf f c → (u : Taken) → t ≡ u → Takes f c u
+takes-as f c e u p = subst (Takes f c) (sym e ∙ p) (takes f c)
 
 -- where the chunk does not finish the item, its bytes are held behind those that were held before
 pub held-more : (f : Feeder) (c : List ℕ) → takeOf f c ≡ T.Unfinished → bytesOf (feedOf f c .feeder .held) ≡ bytesOf (f .held) ++ c
 unfolding feedOf
 held-more f c e =
     let h = bytesOf (f .held) in
-    rw e (pad-front 65 (h ++ c) (rw (length-append h c) (room-for f c refl T.Unfinished e)))
+    rw e (pad-front 65 (h ++ c) (rw (length-append h c) (takes-as f c refl T.Unfinished e)))

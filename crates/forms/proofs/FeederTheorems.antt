@@ -18,73 +18,27 @@ use Rattle.forms.specs.declared.item.Item.{Item}
 use Rattle.forms.specs.declared.item.ReadItem.{ReadItem}
 use Rattle.forms.specs.declared.item.ReadItem.the-variants as R
 use Rattle.forms.specs.declared.feeder.Feeder.{Feeder}
+use Rattle.forms.specs.declared.feeder.Taken.{Taken}
 use Rattle.forms.specs.declared.feeder.Taken.the-variants as T
 use Rattle.forms.specs.declared.feeder.Outcome.the-variants as O
 use Rattle.forms.specs.declared.feeder.Fed.{Fed}
-use Rattle.forms.proofs.ByteLaws.{below-or-past, and-left, and-right}
+use Rattle.forms.proofs.ByteLaws.{and-left, and-right}
 use Rattle.forms.proofs.ItemTheorems.{read-back, item-framed}
-use Rattle.forms.proofs.FeederLaws.{pad-front, Says, told, open-short}
+use Rattle.forms.proofs.FeederLaws.{pad-front, told, more, before-bad, before-whole, Takes, takes}
 use borrow.Author.Tests.{le-ltb, le-leb, ltb-true}
 use lib.Dec.{ltb}
 
--- ---- a longer run begins as a shorter one does, where that says what it is
+-- ---- one chunk
 
-number-more : (s d : List ℕ) → 2 ≤ length s → fromBytes 2 (s ++ d) ≡ fromBytes 2 s
-number-more s d h = rw (List·getD-append s d 0 0 (omega arith), List·getD-append s d 0 1 (omega arith))
-
-more-as : (s d : List ℕ) (r : Framing) → begins s ≡ r → isShort r ≡ false → begins (s ++ d) ≡ begins s
-unfolding framingOf
-more-as s d F.Short e n = absurd (false≢true (sym n))
-more-as s d F.Bad e n =
-    let t = told s F.Bad e in
-    rw (number-more s d (t .0), t .1, le-ltb (length (s ++ d)) 2 (omega (arith, length-append s d, t .0)), le-ltb (length s) 2 (t .0))
-more-as s d (F.Whole k) e n =
-    let t = told s (F.Whole k) e in
-    rw (number-more s d (omega arith), le-ltb (length (s ++ d)) 2 (omega (arith, length-append s d)), le-ltb (length s) 2 (omega arith), le-leb (fromBytes 2 s) (length (s ++ d)) (omega (arith, length-append s d)), le-leb (fromBytes 2 s) (length s) (t .3))
-
-more : (s d : List ℕ) (r : Framing) → begins s ≡ r → isShort r ≡ false → begins (s ++ d) ≡ r
-more s d r e n = more-as s d r e n ∙ e
-
--- ---- an unfinished item h, and the next chunk c
-
+-- a feeder that holds the bytes h of an unfinished item
 module _ (h c : List ℕ) (short : begins h ≡ F.Short) where
-  -- where the two are a bad length or a whole item, it was not so before
-  before-bad : begins (h ++ c) ≡ F.Bad → length h < 2
-  before-bad e = go (below-or-past (length h) 2)
-    where
-      go : (length h < 2) ⊎ (2 ≤ length h) → length h < 2
-      go (inl l) = l
-      go (inr l) = absurd (false≢true (sym (sym (told h F.Short short .1 l .0) ∙ ap (within 14 65) (sym (number-more h c l)) ∙ told (h ++ c) F.Bad e .1)))
-
-  before-whole : (k : ℕ) → begins (h ++ c) ≡ F.Whole k → length h < k
-  before-whole k e = go (below-or-past (length h) 2)
-    where
-      t : Says (length (h ++ c)) (fromBytes 2 (h ++ c)) (F.Whole k)
-      t = told (h ++ c) (F.Whole k) e
-
-      go : (length h < 2) ⊎ (2 ≤ length h) → length h < k
-      go (inl l) = omega (arith, t .0, t .1)
-      go (inr l) = omega (arith, t .0, number-more h c l, told h F.Short short .1 l .1)
-
-  -- a feeder that holds h answers by what h and c begin with
-  abbrev fedOn : Framing → Fed
-  fedOn F.Short = withoutItem (holding (gathered (h ++ c))) (length c) O.UsedUp
-  fedOn F.Bad = withoutItem stoppedFeeder (2 - length h) (O.Refused 1)
-  fedOn (F.Whole k) = completed (k - length h) (h ++ take (k - length h) c)
-
   held : bytesOf (gathered h) ≡ h
   held = pad-front 65 h (omega (arith, told h F.Short short .0))
 
-  fed-open : feedOf (holding (gathered h)) c ≡ fedOn (begins (h ++ c))
+  -- it answers by what h and c begin with
+  fed-open : feedOf (holding (gathered h)) c ≡ fedAs (takenAs (begins (h ++ c)) h) (holding (gathered h)) c
   unfolding feedOf takeOf isClosed
-  fed-open = rw (held, short) (go (begins (h ++ c)))
-    where
-      go : (r : Framing) → fedAs (takenAs r h) (holding (gathered h)) c ≡ fedOn r
-      go F.Short = rw held
-      go F.Bad = refl
-      go (F.Whole k) = rw held
-
--- ---- one chunk
+  fed-open = rw (held, short)
 
 -- a stopped feeder answers nothing more
 stopped-offered : (n p : ℕ) (c : List ℕ) → offered n stoppedFeeder p c ≡ nothingBut stoppedFeeder
@@ -126,8 +80,8 @@ offered-run (suc n) (suc m) q h c e l k = ap (afterCall n (q + length h) c) (fed
   where
     go : (r : Framing) → begins (h ++ c) ≡ r
         → ((q : ℕ) (h c : List ℕ) → begins h ≡ F.Short → length c < n → length (h ++ c) < m → offered n (holding (gathered h)) (q + length h) c ≡ runFrom m q (h ++ c))
-        → afterCall n (q + length h) c (fedOn h c e r) ≡ runAs r q (h ++ c) (λ (k : ℕ). runFrom m (q + k) (drop k (h ++ c)))
-    go F.Short b ih = refl
+        → afterCall n (q + length h) c (fedAs (takenAs r h) (holding (gathered h)) c) ≡ runAs r q (h ++ c) (λ (k : ℕ). runFrom m (q + k) (drop k (h ++ c)))
+    go F.Short b ih = rw (held h c e)
     go F.Bad b ih =
         let p : q + length h + (2 - length h) ≡ q + 2 = omega (arith, before-bad h c e b) in
         rw (stopped-offered n (q + length h + (2 - length h)) (drop (2 - length h) c), p)
@@ -144,7 +98,7 @@ offered-run (suc n) (suc m) q h c e l k = ap (afterCall n (q + length h) c) (fed
         let z = length-append h c in
         let next : offered n newFeeder (q + j) w ≡ runFrom m (q + j) w =
         ap (λ (k : ℕ). offered n newFeeder k w) (sym (add-zero (q + j))) ∙ ih (q + j) [] w new-short (omega arith) (omega arith) in
-        whole-call n (q + length h) u j c (h ++ take u c) ∙ rw (s, p, d) (ap (andThen (placed (completed j (take j (h ++ c))) (q + j))) next)
+        ap (λ (x : List ℕ). afterCall n (q + length h) c (completed u (x ++ take u c))) (held h c e) ∙ whole-call n (q + length h) u j c (h ++ take u c) ∙ rw (s, p, d) (ap (andThen (placed (completed j (take j (h ++ c))) (q + j))) next)
 
 -- ---- chunks one after the other
 
@@ -209,31 +163,18 @@ cut f cs =
 
 -- an answer uses a byte at least, and no more than the chunk has
 pub uses : (f : Feeder) (c : List ℕ) → isAnswer (feedOf f c .outcome) ≡ true → (1 ≤ feedOf f c .used) × (feedOf f c .used ≤ length c)
-unfolding feedOf takeOf
-uses f c = go (isClosed f) (begins (h ++ c)) refl refl
+unfolding feedOf
+uses f c = go (takeOf f c) (takes f c)
   where
-    h : List ℕ
-    h = bytesOf (f .held)
-
     completed-used : (r : ReadItem) (n : ℕ) (s : List ℕ) → completedAs r n s .used ≡ n
     completed-used (R.Item i a) n s = refl
     completed-used (R.Refused m) n s = refl
 
-    go : (x : Bool) (r : Framing) → isClosed f ≡ x → begins (h ++ c) ≡ r
-        → let t = fedAs (cond x T.Closed (takenAs r h)) f c in
-        isAnswer (t .outcome) ≡ true → (1 ≤ t .used) × (t .used ≤ length c)
-    go true r p b n = absurd (false≢true n)
-    go false F.Short p b n = absurd (false≢true n)
-    go false F.Bad p b n =
-        let l = before-bad h c (open-short f p) b in
-        let k = told (h ++ c) F.Bad b .0 in
-        let z = length-append h c in
-        (omega arith, omega arith)
-    go false (F.Whole j) p b n =
-        let l = before-whole h c (open-short f p) j b in
-        let k = told (h ++ c) (F.Whole j) b in
-        let z = length-append h c in
-        rw (completed-used (readItem (h ++ take (j - length h) c)) (j - length h) (h ++ take (j - length h) c)) (omega arith, omega arith)
+    go : (t : Taken) → Takes f c t → isAnswer (fedAs t f c .outcome) ≡ true → (1 ≤ fedAs t f c .used) × (fedAs t f c .used ≤ length c)
+    go T.Closed k n = absurd (false≢true n)
+    go (T.Bad m) k n = k
+    go T.Unfinished k n = absurd (false≢true n)
+    go (T.Whole m) k n = let s = bytesOf (f .held) ++ take m c in rw (completed-used (readItem s) m s) (k .0, k .1)
 
 -- so one call more than the chunk has bytes is enough
 pub enough : (n m : ℕ) (f : Feeder) (p : ℕ) (c : List ℕ) → length c < n → length c < m → offered n f p c ≡ offered m f p c
@@ -268,12 +209,12 @@ pub record Sent : Type 0 where
   pub rest : List ℕ
 
 -- all of it in range; the call in four bytes
-abbrev pub inRange : Sent → Bool
-inRange x = itemInRange (x .item) (x .rest) && ltb (x .item .call) 4294967296
+abbrev pub sentInRange : Sent → Bool
+sentInRange x = itemInRange (x .item) (x .rest) && ltb (x .item .call) 4294967296
 
-abbrev pub allInRange : List Sent → Bool
-allInRange [] = true
-allInRange (x ∷ xs) = inRange x && allInRange xs
+abbrev pub allSentInRange : List Sent → Bool
+allSentInRange [] = true
+allSentInRange (x ∷ xs) = sentInRange x && allSentInRange xs
 
 -- written one behind the other; and each handed out at its place, with its bytes, where the first begins at place q
 abbrev pub sentBytes : List Sent → List ℕ
@@ -286,7 +227,7 @@ handedOut q (x ∷ xs) =
     let b = itemBytes (x .item) (x .rest) in
     record { outcome = O.Item (x .item) (restAt (x .item .body)); bytes = gathered b; place = q + length b } ∷ handedOut (q + length b) xs
 
-sent-run : (n q : ℕ) (xs : List Sent) → length (sentBytes xs) < n → allInRange xs ≡ true → runFrom n q (sentBytes xs) ≡ record { answers = handedOut q xs; left = newFeeder }
+sent-run : (n q : ℕ) (xs : List Sent) → length (sentBytes xs) < n → allSentInRange xs ≡ true → runFrom n q (sentBytes xs) ≡ record { answers = handedOut q xs; left = newFeeder }
 unfolding runFrom framingOf
 sent-run zero q xs l a = absurd (omega arith)
 sent-run (suc n) q [] l a = refl
@@ -295,13 +236,13 @@ sent-run (suc n) q (x ∷ xs) l a =
     let t = x .rest in
     let b = itemBytes i t in
     let w = sentBytes xs in
-    let r = and-left (inRange x) (allInRange xs) a in
+    let r = and-left (sentInRange x) (allSentInRange xs) a in
     let back = read-back i t (and-left (itemInRange i t) (ltb (i .call) 4294967296) r) (ltb-true _ _ (and-right (itemInRange i t) _ r)) .0 in
     let e = item-framed b i (restAt (i .body)) back in
     let z = length-append b w in
     let k = told b (F.Whole (length b)) e in
     rw (more b w (F.Whole (length b)) e refl, take-append-seam b w, drop-append-seam b w, back)
-    (ap (andThen (placed (completedAs (R.Item i (restAt (i .body))) (length b) b) (q + length b))) (sent-run n (q + length b) xs (omega arith) (and-right (inRange x) (allInRange xs) a)))
+    (ap (andThen (placed (completedAs (R.Item i (restAt (i .body))) (length b) b) (q + length b))) (sent-run n (q + length b) xs (omega arith) (and-right (sentInRange x) (allSentInRange xs) a)))
 
-pub in-order : (f : Feeder) (xs : List Sent) (cs : List (List ℕ)) → allInRange xs ≡ true → joined cs ≡ sentBytes xs → chunksFed (resetOf f .feeder) 0 cs ≡ record { answers = handedOut 0 xs; left = newFeeder }
+pub in-order : (f : Feeder) (xs : List Sent) (cs : List (List ℕ)) → allSentInRange xs ≡ true → joined cs ≡ sentBytes xs → chunksFed (resetOf f .feeder) 0 cs ≡ record { answers = handedOut 0 xs; left = newFeeder }
 in-order f xs cs a e = as-run f cs ∙ ap runOf e ∙ sent-run (suc (length (sentBytes xs))) 0 xs (omega arith) a

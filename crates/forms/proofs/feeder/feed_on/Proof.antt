@@ -1,19 +1,19 @@
 -- `forms::feeder::feed_on` meets its contract.
 use borrow.Author.Needs.{needs}
 use Rattle.forms.specs.declared.feeder.Taken.the-variants as T
-use Rattle.forms.proofs.FeederLaws.{room-for}
+use Rattle.forms.proofs.FeederLaws.{takes-as}
 use Rattle.forms.proofs.feeder.feed_on.Statement.{statement}
 use Rattle.forms.proofs.feeder.feed_on.Tie as tie
 
 join-requires : tie.Need-join-requires
 join-requires c κs =
     let a = c .before .before .before .before .before .before .before in
-    rw (c .before .before .part-of .ensures) (room-for (a .args .f) (a .args .chunk .now) (a .pre) T.Unfinished (c .enum-told2 .given .1))
+    rw (c .before .before .part-of .ensures) (takes-as (a .args .f) (a .args .chunk .now) (a .pre) T.Unfinished (c .enum-told2 .given .1))
 
 complete-requires : tie.Need-complete-requires
 complete-requires c κs =
     let a = c .before .before .before .before .before .before .before .before .before in
-    rw (c .part-of2 .ensures, c .before .before .before .before .part-of .ensures) (room-for (a .args .f) (a .args .chunk .now) (a .pre) (T.Whole _) (c .before .before .t2 .given .1))
+    rw (c .part-of2 .ensures, c .before .before .before .before .part-of .ensures) (takes-as (a .args .f) (a .args .chunk .now) (a .pre) (T.Whole _) (c .before .before .t2 .given .1) .2)
 
 returns : tie.Need-returns
 returns c = rw (c .without-item .ensures, c .before .enum-told .given .1)

@@ -13,7 +13,7 @@ use Rattle.forms.specs.declared.feeder.Feeder.{Feeder}
 use Rattle.forms.specs.declared.feeder.Taken.{Taken}
 use Rattle.forms.specs.declared.feeder.Taken.the-variants as T
 use Rattle.forms.proofs.ByteLaws.{and-left, and-right}
-use Rattle.forms.proofs.FeederLaws.{room-for, held-more}
+use Rattle.forms.proofs.FeederLaws.{takes-as, held-more}
 use Rattle.listing.specs.Input.{isUnfinished, goesOn}
 use Rattle.listing.proofs.input.read_on.Statement.{statement}
 use Rattle.listing.proofs.input.read_on.Tie as tie
@@ -36,7 +36,7 @@ unfolding goesOn
 more-held f c e =
     let u = unfinished (takeOf f c) (and-right (ltb 0 (length c)) (isUnfinished (takeOf f c)) e) in
     let l = ltb-true 0 (length c) (and-left (ltb 0 (length c)) (isUnfinished (takeOf f c)) e) in
-    rw (held-more f c u) (omega (arith, length-append (bytesOf (f .held)) c, room-for f c refl T.Unfinished u))
+    rw (held-more f c u) (omega (arith, length-append (bytesOf (f .held)) c, takes-as f c refl T.Unfinished u))
 
 loop-less : tie.Need-loop-less Inv-loop μ-loop
 loop-less c =
