@@ -1,9 +1,9 @@
-//! The paper's own examples, the feeder, and what the test commands rely on:
-//! that every input survives being explained, the ranges of the text, the
-//! rounds of bench.
+//! The paper's own examples, the feeder, the comparison of digits, and what the
+//! test commands rely on: that every input survives being explained, the ranges
+//! of the text, the rounds of bench.
 //!
 //! Document 01, sections "The listing program" and "Both sides of each edge";
-//! document 02, T-02.
+//! document 02, T-02 and T-03.
 
 use crate::bench;
 use crate::chunks::{self, Case, Step};
@@ -15,7 +15,9 @@ use crate::listing::{self, frames};
 use crate::random::Random;
 use crate::table;
 use crate::text;
+use crate::trigger::{compare, compare_from_front, Compared};
 use std::io::BufReader;
+use std::iter;
 
 /// Every line gets the answer that stands in it.
 fn check(scenario: &str) {
@@ -272,6 +274,107 @@ fn cuts_do_not_matter() {
     for (number, bytes) in compare_chunks::cases(500, 1).enumerate() {
         let case = Case::read(&bytes).unwrap();
         assert!(!compare_chunks::cut_matters(&case), "case {}", number + 1);
+    }
+}
+
+fn check_digits(stored: &[u8], dialled: &[u8], matches: bool, pairs: usize) {
+    let expected = Compared { matches, pairs };
+    assert_eq!(compare(stored, dialled), expected, "{stored:?} {dialled:?}");
+}
+
+/// P6 with its counts.
+#[test]
+fn digits_of_p6() {
+    check_digits(&[4, 9, 1], &[4, 9, 1, 5], true, 3);
+    check_digits(&[4, 9, 1], &[4, 9, 1], true, 3);
+    check_digits(&[4, 9, 1], &[4, 9], false, 0);
+}
+
+#[test]
+fn digits_of_one_place_or_none() {
+    check_digits(&[4], &[4], true, 1);
+    check_digits(&[4], &[4, 9], true, 1);
+    check_digits(&[4], &[9], false, 1);
+    check_digits(&[4], &[9, 4], false, 1);
+    check_digits(&[4], &[], false, 0);
+    check_digits(&[], &[], true, 0);
+    check_digits(&[], &[4], true, 0);
+}
+
+/// One digit differs, or two: the last one is compared first, and the others up
+/// to the first that differs. It makes no difference what follows.
+#[test]
+fn digits_that_differ() {
+    const STORED: [u8; 15] = [4, 9, 1, 5, 14, 0, 3, 4, 5, 6, 7, 8, 9, 0, 1];
+    for length in 1..=15 {
+        let last = length - 1;
+        for place in 0..length {
+            let mut dialled = STORED;
+            dialled[place] += 1;
+            let pairs = if place == last { 1 } else { place + 2 };
+            check_digits(&STORED[..length], &dialled[..length], false, pairs);
+            check_digits(&STORED[..length], &dialled, false, pairs);
+            check_digits(&STORED[..length], &dialled[..last], false, 0);
+            dialled[last] = 13;
+            check_digits(&STORED[..length], &dialled, false, 1);
+        }
+    }
+}
+
+/// All numbers of up to four digits, of three sorts.
+fn small_numbers() -> Vec<Vec<u8>> {
+    let longer = |numbers: &Vec<Vec<u8>>| {
+        let with_digit =
+            |number: &Vec<u8>| [0, 1, 14].map(|digit| [&number[..], &[digit]].concat());
+        Some(numbers.iter().flat_map(with_digit).collect())
+    };
+    let lengths = iter::successors(Some(vec![vec![]]), longer);
+    lengths.take(5).flatten().collect()
+}
+
+/// The answer is the same as ever, and the count has its bounds.
+#[test]
+fn digits_of_all_small_numbers() {
+    let numbers = small_numbers();
+    assert_eq!(numbers.len(), 1 + 3 + 9 + 27 + 81);
+    for stored in &numbers {
+        for dialled in &numbers {
+            let compared = compare(stored, dialled);
+            let Compared { matches, pairs } = compared;
+            let case = format!("{stored:?} {dialled:?} {compared:?}");
+            assert_eq!(matches, dialled.starts_with(stored), "{case}");
+            assert_eq!(
+                matches,
+                compare_from_front(stored, dialled).matches,
+                "{case}"
+            );
+            assert!(pairs <= stored.len(), "{case}");
+            if matches {
+                assert_eq!(pairs, stored.len(), "{case}");
+            } else if dialled.len() < stored.len() {
+                assert_eq!(pairs, 0, "{case}");
+            } else if stored.last() != dialled[..stored.len()].last() {
+                assert_eq!(pairs, 1, "{case}");
+            } else {
+                assert!(pairs > 1, "{case}");
+            }
+        }
+    }
+}
+
+/// As it was before T-03: the last digit comes last.
+#[test]
+fn digits_from_the_front() {
+    for (stored, dialled, matches, pairs) in [
+        (&[4, 9, 1][..], &[4, 9, 1, 5][..], true, 3),
+        (&[4, 9, 1], &[4, 9], false, 0),
+        (&[4, 9, 1], &[5, 9, 1], false, 1),
+        (&[4, 9, 1], &[4, 8, 1], false, 2),
+        (&[4, 9, 1], &[4, 9, 2], false, 3),
+        (&[], &[], true, 0),
+    ] {
+        let expected = Compared { matches, pairs };
+        assert_eq!(compare_from_front(stored, dialled), expected);
     }
 }
 
