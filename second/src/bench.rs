@@ -3,6 +3,7 @@
 
 use crate::forms::write_item;
 use crate::listing::frames;
+use crate::rounds::{self, Rounds};
 use crate::table::{self, Entry, ENTRIES};
 use crate::text;
 use std::fs::{self, File};
@@ -14,35 +15,22 @@ use std::{env, io};
 /// Which function is fed with: the first byte of the input of `feed-items`.
 const FEED: u8 = 0;
 const FEED_SOUND: u8 = 1;
-/// The longest input of `feed-items`.
-const LONGEST_INPUT: usize = 65536;
-/// About so many items make a round; they stay below that length.
+/// About so many items make a round; they stay below the longest input.
 const ROUND_ITEMS: usize = 2500;
 
-/// Feeds items to a fresh table, in their order, and after the last one the
-/// first again, until so many were fed as the input says: `FED REFUSED`.
+/// Feeds items to a fresh table, as many as the input says: `FED REFUSED`.
 pub fn feed_items(input: &[u8]) -> Result<String, String> {
-    if input.len() > LONGEST_INPUT {
-        return Err(format!("the input has more than {LONGEST_INPUT} bytes"));
-    }
-    let Some((head, input)) = input.split_first_chunk::<5>() else {
-        return Err("the head of five bytes is missing".to_string());
-    };
-    let [function, count @ ..] = *head;
-    let count = u32::from_be_bytes(count);
-    let frames = frames(input);
-    let Some((profile, items @ [_, ..])) = frames.split_first() else {
-        return Err("the profile or the items are missing".to_string());
-    };
-    let feed = match function {
+    let rounds = Rounds::read(input)?;
+    let feed = match rounds.function {
         FEED => table::feed,
         FEED_SOUND => table::feed_sound,
-        _ => return Err(format!("no function has the number {function}")),
+        _ => return rounds.unknown_function(),
     };
+    let count = rounds.count;
     let mut table = table::fresh();
     let mut refused = 0;
-    for item in items.iter().cycle().take(count as usize) {
-        refused += u32::from(feed(&mut table, item, profile).is_err());
+    for item in rounds.items.iter().cycle().take(count as usize) {
+        refused += u32::from(feed(&mut table, item, rounds.profile).is_err());
     }
     Ok(format!("{count} {refused}"))
 }
@@ -292,8 +280,7 @@ impl Feeding<'_> {
     /// same: else they have not done the same.
     fn time(&self, programs: &[Program; 2], rounds: u32) -> io::Result<[Duration; 2]> {
         let items = rounds * self.round_items;
-        let head = [&[self.function], &items.to_be_bytes()[..]].concat();
-        fs::write(self.file, [&head, &self.round[..]].concat())?;
+        fs::write(self.file, rounds::write(self.function, items, &self.round))?;
         let [proved, second] = programs;
         let (proved_time, proved_said) = proved.time(self.file, Stdio::piped())?;
         let (second_time, second_said) = second.time(self.file, Stdio::piped())?;

@@ -26,10 +26,12 @@ mod coverage;
 mod generate;
 mod program;
 mod random;
+mod rounds;
 mod tables;
 #[cfg(test)]
 mod tests;
 mod text;
+mod triggers;
 
 use std::env;
 use std::io::{self, BufReader, Read, Write};
@@ -83,6 +85,12 @@ Measuring
                                  1 byte (0: feed, 1: feed_sound), 4 bytes (how
                                  many items to feed), a profile and items;
                                  prints how many were fed, how many refused
+  second check-triggers < BYTES  checks Setups against a profile's stored
+                                 numbers, over and over: reads 1 byte (2: the
+                                 last digit first, 3: from the front), 4 bytes
+                                 (how many checks to make), a profile and
+                                 Setups; prints how many were made, how many
+                                 matched, how many digit pairs were compared
   second bench-input 1|32|64 ITEMS > BYTES
                                  writes a profile and about ITEMS items of so
                                  many open calls, which are over at the end
@@ -135,6 +143,7 @@ fn run(words: &[&str]) -> Result<bool, String> {
             return compare_chunks::run(program, number(count)?, first(seed)?)
         }
         ["feed-items"] => println!("{}", bench::feed_items(&read_input()?)?),
+        ["check-triggers"] => println!("{}", triggers::run(&read_input()?)?),
         ["bench-input", open @ ("1" | "32" | "64"), items] => write_output(&bench::input(
             number(open)? as u32,
             number(items)? as usize,

@@ -13,9 +13,11 @@ use crate::feeder::Feeder;
 use crate::generate;
 use crate::listing::{self, frames};
 use crate::random::Random;
+use crate::rounds;
 use crate::table;
 use crate::text;
 use crate::trigger::{compare, compare_from_front, Compared};
+use crate::triggers::{self, DIALLED_WITH_LONG_LIST, FROM_FRONT, LAST_FIRST, LONG_LIST};
 use std::io::BufReader;
 use std::iter;
 
@@ -376,6 +378,58 @@ fn digits_from_the_front() {
         let expected = Compared { matches, pairs };
         assert_eq!(compare_from_front(stored, dialled), expected);
     }
+}
+
+/// So many checks of a profile and what is dialled print these lines: the last
+/// digit first, and from the front.
+fn check_triggers(profile: &str, dialled: &[&str], checks: u32, expected: [&str; 2]) {
+    let round = triggers::round(profile, dialled).unwrap();
+    let sums = [LAST_FIRST, FROM_FRONT]
+        .map(|function| triggers::run(&rounds::write(function, checks, &round)).unwrap());
+    assert_eq!(sums.map(|sums| sums.to_string()), expected);
+}
+
+/// Only numbers of the nature are compared, and none after one that matches;
+/// the Setups are taken again from the first.
+#[test]
+fn trigger_checks() {
+    let profile = "profile continue 120 inhibiting 4/492 3/491 4/491 4/49 length 4 service 1";
+    check_triggers(profile, &["4/4915"], 1, ["1 1 4", "1 1 6"]);
+    check_triggers(profile, &["3/4915"], 2, ["2 2 6", "2 2 6"]);
+    check_triggers(profile, &["5/4915"], 1, ["1 0 0", "1 0 0"]);
+    check_triggers(profile, &["4/4815", "4/4"], 3, ["3 0 10", "3 0 12"]);
+    check_triggers(profile, &["4/4915"], 0, ["0 0 0", "0 0 0"]);
+}
+
+#[test]
+fn trigger_checks_of_the_long_list() {
+    let expected = [
+        ["1 0 10", "1 0 150"],
+        ["1 1 24", "1 1 150"],
+        ["1 0 10", "1 0 10"],
+        ["1 0 11", "1 0 10"],
+    ];
+    for ((dialled, _), expected) in DIALLED_WITH_LONG_LIST.into_iter().zip(expected) {
+        check_triggers(LONG_LIST, &[dialled], 1, expected);
+    }
+}
+
+#[test]
+fn trigger_checks_of_a_wrong_input() {
+    let profile = "profile continue 120 enabling 4/491";
+    let assemble = |text: String| text::bytes_of(&text::assemble(&text).unwrap());
+    let round = triggers::round(profile, &["4/491"]).unwrap();
+    for (function, round) in [
+        (0, round.clone()),
+        (4, round.clone()),
+        (LAST_FIRST, round[..round.len() - 1].to_vec()),
+        (LAST_FIRST, assemble(profile.to_string())),
+        (LAST_FIRST, assemble(format!("{profile}\n0 call 1 answer"))),
+        (LAST_FIRST, round.repeat(2000)),
+    ] {
+        assert!(triggers::run(&rounds::write(function, 1, &round)).is_err());
+    }
+    assert!(triggers::run(&[LAST_FIRST, 0, 0, 0]).is_err());
 }
 
 #[test]
