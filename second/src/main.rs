@@ -21,6 +21,7 @@ mod chunks;
 mod compare;
 mod compare_chunks;
 mod compare_tables;
+mod compare_triggers;
 mod counts;
 mod coverage;
 mod generate;
@@ -80,17 +81,25 @@ Items that arrive in bits (src/chunks.rs has the form)
                                  compares; and holds this program's feeder to
                                  T-02's sentence about cuts
 
-Measuring
-  second feed-items < BYTES      feeds items to one table, over and over: reads
-                                 1 byte (0: feed, 1: feed_sound), 4 bytes (how
-                                 many items to feed), a profile and items;
-                                 prints how many were fed, how many refused
+Trigger checks, over and over (src/triggers.rs says what one is)
   second check-triggers < BYTES  checks Setups against a profile's stored
                                  numbers, over and over: reads 1 byte (2: the
                                  last digit first, 3: from the front), 4 bytes
                                  (how many checks to make), a profile and
                                  Setups; prints how many were made, how many
                                  matched, how many digit pairs were compared
+  second compare-triggers PROGRAM COUNT [SEED]
+                                 runs PROGRAM, which does the same, and this one
+                                 on fixed cases and COUNT random ones, each in
+                                 both orders of digits, and compares; and holds
+                                 this program to T-03's sentence that every
+                                 answer stays as it is
+
+Measuring
+  second feed-items < BYTES      feeds items to one table, over and over: reads
+                                 1 byte (0: feed, 1: feed_sound), 4 bytes (how
+                                 many items to feed), a profile and items;
+                                 prints how many were fed, how many refused
   second bench-input 1|32|64 ITEMS > BYTES
                                  writes a profile and about ITEMS items of so
                                  many open calls, which are over at the end
@@ -142,8 +151,11 @@ fn run(words: &[&str]) -> Result<bool, String> {
         ["compare-chunks", program, count, seed @ ..] => {
             return compare_chunks::run(program, number(count)?, first(seed)?)
         }
-        ["feed-items"] => println!("{}", bench::feed_items(&read_input()?)?),
         ["check-triggers"] => println!("{}", triggers::run(&read_input()?)?),
+        ["compare-triggers", program, count, seed @ ..] => {
+            return compare_triggers::run(program, number(count)?, first(seed)?)
+        }
+        ["feed-items"] => println!("{}", bench::feed_items(&read_input()?)?),
         ["bench-input", open @ ("1" | "32" | "64"), items] => write_output(&bench::input(
             number(open)? as u32,
             number(items)? as usize,
