@@ -1,11 +1,13 @@
 //! Measuring this program beside the proved one: the listing programs on one
-//! long input, and feeding a table, item for item.
+//! long input; feeding a table, item for item; and trigger checks with a long
+//! list, as they were before T-03 and as they are.
 
 use crate::forms::write_item;
 use crate::listing::frames;
 use crate::rounds::{self, Rounds};
 use crate::table::{self, Entry, ENTRIES};
 use crate::text;
+use crate::triggers::{self, DIALLED_WITH_LONG_LIST, FROM_FRONT, LAST_FIRST, LONG_LIST};
 use std::fs::{self, File};
 use std::path::{Path, PathBuf};
 use std::process::{self, Child, Command, Stdio};
@@ -158,21 +160,21 @@ const OPEN: [u32; 3] = [1, 32, 64];
 /// How much is measured.
 struct Extent {
     listing_items: usize,
-    /// The shortest time that this program shall feed.
-    feeding_time: Duration,
+    /// The shortest time that this program shall go on with a function.
+    function_time: Duration,
     /// The programs run in turn, so often, and the best time of each counts.
     repeats: usize,
 }
 
 const QUICK: Extent = Extent {
     listing_items: 500_000,
-    feeding_time: Duration::from_millis(60),
+    function_time: Duration::from_millis(60),
     repeats: 3,
 };
 
 const WHOLE: Extent = Extent {
     listing_items: 2_500_000,
-    feeding_time: Duration::from_millis(150),
+    function_time: Duration::from_millis(150),
     repeats: 7,
 };
 
@@ -181,7 +183,8 @@ pub fn run(listing: &str, bench: &str, quick: bool) -> io::Result<()> {
     let extent = if quick { QUICK } else { WHOLE };
     let file = env::temp_dir().join(format!("second-bench-{}", process::id()));
     let measured = measure_listings(listing, &file, &extent)
-        .and_then(|()| measure_feeding(bench, &file, &extent));
+        .and_then(|()| measure_feeding(bench, &file, &extent))
+        .and_then(|()| measure_triggers(bench, &file, &extent));
     let removed = fs::remove_file(&file);
     measured.and(removed)
 }
@@ -250,14 +253,13 @@ fn measure_feeding(bench: &str, file: &Path, extent: &Extent) -> io::Result<()> 
     for (function, name) in [(FEED, "feed"), (FEED_SOUND, "feed_sound")] {
         for open in OPEN {
             let round = input(open, ROUND_ITEMS).map_err(io::Error::other)?;
-            let feeding = Feeding {
+            let feeding = Repeated {
                 function,
                 name,
-                round_items: item_count(&round),
-                round,
+                round: &round,
                 file,
             };
-            let [proved, second] = feeding.measure(&programs, extent)?;
+            let [proved, second] = feeding.measure(&programs, extent)?.nanoseconds;
             let ratio = proved / second;
             println!("| {name} | {open} | {proved:.1} | {second:.1} | {ratio:.2} |");
         }
@@ -265,62 +267,132 @@ fn measure_feeding(bench: &str, file: &Path, extent: &Extent) -> io::Result<()> 
     Ok(())
 }
 
-/// Feeding whole rounds of the same items. Each round ends with an empty table,
+/// Nanoseconds a trigger check, and digit pairs, with T-03's long list: the
+/// ratios are those of what was to what is.
+fn measure_triggers(bench: &str, file: &Path, extent: &Extent) -> io::Result<()> {
+    let programs = pair(bench, "check-triggers")?;
+    println!();
+    println!(
+        "| trigger check: dialled, beside ten stored numbers of 15 digits that share 14 \
+         | pairs/check before T-03 | pairs/check after \
+         | PAIRS before/after (1.0 or more: no more after) \
+         | proved, ns/check before | proved, ns/check after \
+         | TIME proved before/after (1.0 or more: at least as fast after) \
+         | second, ns/check before | second, ns/check after \
+         | TIME second before/after (1.0 or more: at least as fast after) |"
+    );
+    println!("|---|---:|---:|---:|---:|---:|---:|---:|---:|---:|");
+    for (dialled, name) in DIALLED_WITH_LONG_LIST {
+        let round = triggers::round(LONG_LIST, &[dialled]).map_err(io::Error::other)?;
+        let measure = |function| {
+            let checks = Repeated {
+                function,
+                name,
+                round: &round,
+                file,
+            };
+            checks.measure(&programs, extent)
+        };
+        let before = measure(FROM_FRONT)?;
+        let after = measure(LAST_FIRST)?;
+        let pairs = [before.pairs_per_check()?, after.pairs_per_check()?];
+        let mut line = format!("| {name} |{}", ratio_cells(pairs, 0));
+        for (before, after) in before.nanoseconds.into_iter().zip(after.nanoseconds) {
+            line += &ratio_cells([before, after], 1);
+        }
+        println!("{line}");
+    }
+    Ok(())
+}
+
+/// What was, what is, and their ratio.
+fn ratio_cells([before, after]: [f64; 2], decimals: usize) -> String {
+    let ratio = before / after;
+    format!(" {before:.decimals$} | {after:.decimals$} | {ratio:.2} |")
+}
+
+/// Whole rounds of the same items, over and over. Each round ends as it began,
 /// so the next one finds what the first has found.
-struct Feeding<'a> {
+struct Repeated<'a> {
     function: u8,
     name: &'static str,
-    round: Vec<u8>,
-    round_items: u32,
+    /// A profile and items.
+    round: &'a [u8],
     file: &'a Path,
 }
 
-impl Feeding<'_> {
-    /// How long each program takes for so many rounds. Both have to say the
-    /// same: else they have not done the same.
-    fn time(&self, programs: &[Program; 2], rounds: u32) -> io::Result<[Duration; 2]> {
-        let items = rounds * self.round_items;
-        fs::write(self.file, rounds::write(self.function, items, &self.round))?;
+/// What both programs took and said.
+struct Measured {
+    /// For one item.
+    nanoseconds: [f64; 2],
+    said: String,
+}
+
+impl Measured {
+    /// From what check-triggers says: `CHECKS MATCHED PAIRS`.
+    fn pairs_per_check(&self) -> io::Result<f64> {
+        let numbers: Result<Vec<f64>, _> = self.said.split(' ').map(str::parse).collect();
+        match numbers.as_deref() {
+            Ok([checks, _, pairs]) => Ok(pairs / checks),
+            _ => Err(io::Error::other(format!(
+                "no count of pairs: {}",
+                self.said
+            ))),
+        }
+    }
+}
+
+impl Repeated<'_> {
+    /// How long each program takes for so many rounds, and what it says. Both
+    /// have to say the same: else they have not done the same.
+    fn time(&self, programs: &[Program; 2], rounds: u32) -> io::Result<([Duration; 2], String)> {
+        let items = rounds * item_count(self.round);
+        fs::write(self.file, rounds::write(self.function, items, self.round))?;
         let [proved, second] = programs;
         let (proved_time, proved_said) = proved.time(self.file, Stdio::piped())?;
         let (second_time, second_said) = second.time(self.file, Stdio::piped())?;
         if proved_said != second_said {
             let (name, path) = (self.name, proved.path.display());
             return Err(io::Error::other(format!(
-                "{name} of {items} items: FED REFUSED is not the same\n  \
+                "{name}, {items} items: what is said is not the same\n  \
                  {path}: {proved_said}\n  second: {second_said}"
             )));
         }
-        Ok([proved_time, second_time])
+        Ok(([proved_time, second_time], second_said))
     }
 
-    /// So many rounds that this program feeds long enough; a multiple of four.
+    /// So many rounds that this program takes long enough; a multiple of four.
     fn enough_rounds(&self, programs: &[Program; 2], extent: &Extent) -> io::Result<u32> {
+        let long_enough = |rounds| {
+            let ([_, second_time], _) = self.time(programs, rounds)?;
+            io::Result::Ok(second_time >= extent.function_time)
+        };
         let mut rounds = 4;
-        loop {
-            let [_, second_time] = self.time(programs, rounds)?;
-            if second_time >= extent.feeding_time {
-                return Ok(rounds);
-            }
+        // Twice, since something else may have held up a single run.
+        while !(long_enough(rounds)? && long_enough(rounds)?) {
             rounds *= 2;
         }
+        Ok(rounds)
     }
 
-    /// Nanoseconds an item, from runs of two lengths, so that start-up does not
-    /// count.
-    fn measure(&self, programs: &[Program; 2], extent: &Extent) -> io::Result<[f64; 2]> {
+    /// Runs of two lengths, so that start-up does not count.
+    fn measure(&self, programs: &[Program; 2], extent: &Extent) -> io::Result<Measured> {
         let long = self.enough_rounds(programs, extent)?;
         let short = long / 4;
         let mut long_times = [Duration::MAX; 2];
         let mut short_times = [Duration::MAX; 2];
+        let mut said = String::new();
         for _ in 0..extent.repeats {
-            keep_best(&mut long_times, self.time(programs, long)?);
-            keep_best(&mut short_times, self.time(programs, short)?);
+            let times;
+            (times, said) = self.time(programs, long)?;
+            keep_best(&mut long_times, times);
+            keep_best(&mut short_times, self.time(programs, short)?.0);
         }
-        let items = f64::from((long - short) * self.round_items);
-        Ok([0, 1].map(|place| {
+        let items = f64::from((long - short) * item_count(self.round));
+        let nanoseconds = [0, 1].map(|place| {
             let time = long_times[place].saturating_sub(short_times[place]);
             time.as_secs_f64() * 1e9 / items
-        }))
+        });
+        Ok(Measured { nanoseconds, said })
     }
 }

@@ -105,8 +105,8 @@ Measuring
                                  many open calls, which are over at the end
   second bench LISTING BENCH [--quick]
                                  times this program beside the proved ones:
-                                 `listing` beside LISTING, `feed-items` beside
-                                 BENCH
+                                 `listing` beside LISTING, `feed-items` and
+                                 `check-triggers` beside BENCH
 
 The exit status is 1 if there is an error or a difference, or if something that
 has to be reached was not.";
