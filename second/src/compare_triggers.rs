@@ -34,16 +34,25 @@ impl Case {
     }
 }
 
-/// In which order digits are compared: its name, and its number in the input.
-type Order = (
-    &'static str,
-    u8,
-    fn(stored: &[u8], dialled: &[u8]) -> Compared,
-);
+/// In which order digits are compared.
+struct Order {
+    name: &'static str,
+    /// Its number in the input.
+    function: u8,
+    compare: fn(stored: &[u8], dialled: &[u8]) -> Compared,
+}
 
 const ORDERS: [Order; 2] = [
-    ("last first", LAST_FIRST, compare),
-    ("from front", FROM_FRONT, compare_from_front),
+    Order {
+        name: "last first",
+        function: LAST_FIRST,
+        compare,
+    },
+    Order {
+        name: "from front",
+        function: FROM_FRONT,
+        compare: compare_from_front,
+    },
 ];
 
 /// The cases that are always run.
@@ -225,7 +234,7 @@ pub fn run(program: &str, count: u64, seed: u64) -> Result<bool, String> {
             }
         }
         for order in ORDERS {
-            comparisons += count_case(&mut counts, &case, order)?;
+            comparisons += count_case(&mut counts, &case, &order)?;
         }
         numbers = number;
     }
@@ -237,7 +246,7 @@ pub fn run(program: &str, count: u64, seed: u64) -> Result<bool, String> {
 /// What differs in a case, if something does.
 fn compare_case(program: &str, case: &Case) -> Result<Option<String>, String> {
     let mut matched = Vec::new();
-    for (name, function, _) in ORDERS {
+    for Order { name, function, .. } in ORDERS {
         let input = case.input(function);
         let ours = triggers::run(&input)?;
         let theirs = program::output_of(program, &input)?;
@@ -274,7 +283,7 @@ const LISTS: [&str; 7] = [
 /// answer by itself, as a single comparison shows it; and sorts of lists.
 fn wanted() -> Vec<(&'static str, Vec<String>)> {
     let strings = |forms: &[&str]| forms.iter().map(|form| form.to_string()).collect();
-    let answers = ORDERS.iter().flat_map(|(name, ..)| single_forms(name));
+    let answers = ORDERS.iter().flat_map(|order| single_forms(order.name));
     vec![
         ("lengths", strings(&LENGTHS)),
         ("digit pairs of a single comparison", answers.collect()),
@@ -297,21 +306,20 @@ fn single_form(order: &str, compared: Compared) -> String {
 }
 
 /// Counts what a case reaches, and gives the number of its comparisons.
-fn count_case(counts: &mut Counts, case: &Case, order: Order) -> Result<usize, String> {
-    let (name, function, compare) = order;
-    let input = case.input(function);
+fn count_case(counts: &mut Counts, case: &Case, order: &Order) -> Result<usize, String> {
+    let input = case.input(order.function);
     let rounds = Rounds::read(&input)?;
     let checks = Checks::read(&rounds)?;
     let mut made = Vec::new();
     checks.make(|stored, dialled| {
-        let compared = compare(stored, dialled);
+        let compared = (order.compare)(stored, dialled);
         counts.count(length_form(stored, dialled, compared));
         made.push(compared);
         compared
     });
     if let ([dialled], 1) = (&checks.dialled[..], checks.count) {
         if let [single] = made[..] {
-            counts.count(single_form(name, single));
+            counts.count(single_form(order.name, single));
         }
         count_list(counts, &checks.stored, dialled, &made);
     }
