@@ -1,5 +1,9 @@
-// A benchmark program: items fed over and over to one table, by the public `feed` or by `feed_sound`.
-// Standard input: 0 for `feed` or 1 for `feed_sound` (1 byte), how many items to feed (4 bytes), a profile, and items to the end, after the last of which comes the first again; at most 65536 bytes. It writes how many items were fed and how many of them were refused.
+// A benchmark program: items fed over and over to one table, by the public `feed` or by `feed_sound`; or trigger checks (trigger.rt).
+// Standard input: what to do (1 byte), how often (4 bytes), a profile, and items to the end, after the last of which comes the first again; at most 65536 bytes.
+// 0 `feed`, 1 `feed_sound`: writes how many items were fed and how many of them were refused.
+// 2 trigger checks with the last digit first, 3 from the front; the items are Setups: writes how many checks were made, in how many a stored number matched, and how many digit pairs were compared.
+mod trigger;
+
 ghost use Prim.Native.Nat.{_<_};
 use call::answers::Answer;
 use forms::bytes;
@@ -7,6 +11,13 @@ use libc::STDIN_FILENO;
 use libc::STDOUT_FILENO;
 use table::entry;
 use table::feed;
+use trigger::Checked;
+
+const FEED: u8 = 0;
+
+const FEED_SOUND: u8 = 1;
+
+const LAST_FIRST: u8 = 2;
 
 // The profile stands behind the five bytes of the head.
 const HEAD: usize = 5;
@@ -23,13 +34,14 @@ fn size_at(buf: &[u8], at: usize) -> usize {
     bytes::number2(bytes::from(buf, at))
 }
 
-fn place_after(at: usize, n: usize) -> usize {
-    if n <= usize::MAX - at { at + n } else { at }
+// a + b. (Both are small here: tested, the sum needs no `requires`.)
+pub(crate) fn sum(a: usize, b: usize) -> usize {
+    if b <= usize::MAX - a { a + b } else { a }
 }
 
 // The place of the first item.
 fn first_place(buf: &[u8]) -> usize {
-    place_after(HEAD, size_at(buf, HEAD))
+    sum(HEAD, size_at(buf, HEAD))
 }
 
 // How many items are to be fed.
@@ -49,7 +61,7 @@ fn start(buf: &[u8]) -> State {
 
 // The place of the item after the one that was answered.
 fn next_place(buf: &[u8], at: usize, size: usize) -> usize {
-    let next = place_after(at, size);
+    let next = sum(at, size);
     if next < buf.len() {
         next
     } else {
@@ -108,11 +120,48 @@ fn run(buf: &[u8], checked: bool) -> State {
     s
 }
 
-fn report(buf: &[u8]) {
-    let s = run(buf, bytes::at(buf, 0) == 0);
-    io::print_decimal(STDOUT_FILENO, total(buf) as u64);
+// The sums of all checks.
+fn check_all(buf: &[u8], last_first: bool) -> Checked {
+    let profile = profile_of(buf);
+    let mut left = total(buf);
+    let mut at = first_place(buf);
+    let mut matched: usize = 0;
+    let mut pairs: usize = 0;
+    while 0 < left {
+        let size = size_at(buf, at);
+        let c = trigger::check(profile, bytes::part_of(buf, at, size), last_first);
+        matched = sum(matched, c.matched);
+        pairs = sum(pairs, c.pairs);
+        at = next_place(buf, at, size);
+        left -= 1;
+    }
+    Checked { matched, pairs }
+}
+
+fn write_next(n: u64) {
     io::write_all(STDOUT_FILENO, b" ");
-    io::print_decimal(STDOUT_FILENO, s.refused);
+    io::print_decimal(STDOUT_FILENO, n);
+}
+
+fn report_fed(buf: &[u8], checked: bool) {
+    let s = run(buf, checked);
+    write_next(s.refused);
+}
+
+fn report_checked(buf: &[u8], last_first: bool) {
+    let c = check_all(buf, last_first);
+    write_next(c.matched as u64);
+    write_next(c.pairs as u64);
+}
+
+fn report(buf: &[u8]) {
+    let what = bytes::at(buf, 0);
+    io::print_decimal(STDOUT_FILENO, total(buf) as u64);
+    if what <= FEED_SOUND {
+        report_fed(buf, what == FEED);
+    } else {
+        report_checked(buf, what == LAST_FIRST);
+    }
     io::write_all(STDOUT_FILENO, b"\n");
 }
 

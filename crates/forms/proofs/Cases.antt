@@ -9,6 +9,7 @@ use Rattle.forms.specs.Bytes.{pad, all, leads, same}
 use Rattle.forms.specs.Framing.{framingOf}
 use Rattle.forms.specs.Item.{itemBytes, itemInRange, restAt, bodyFrom, bodyOf, itemOf, isItem, readItem, entryOf, readEntry}
 use Rattle.forms.specs.Feeder.{gathered, holding, newFeeder, stoppedFeeder, isClosed, takeOf, withoutItem, feedOf, resetOf}
+use Rattle.forms.specs.Comparison.{leading, notLeading, pairsOf, compareOn, comparison}
 use Rattle.forms.specs.Profile.{Profile, fieldsOf, profileBytes, profileInRange, numbersAt, numbersEnd, viewAt, viewOf, profileOf, isProfile, readProfile, matches}
 use Rattle.forms.specs.declared.item.Leg.the-variants.{Two}
 use Rattle.forms.specs.declared.item.Body.{Body}
@@ -64,6 +65,13 @@ p2-entry = refl
 pub p6 : map (matches (record { nature = 4; digits = 4 ∷ 9 ∷ 1 ∷ [] }) 4) ((4 ∷ 9 ∷ 1 ∷ 5 ∷ []) ∷ (4 ∷ 9 ∷ 1 ∷ []) ∷ (4 ∷ 9 ∷ []) ∷ []) ≡ true ∷ true ∷ false ∷ []
 unfolding leads
 p6 = refl
+
+-- T-03: of P6's numbers, how many digit pairs are compared: with 4915 and 491 all three, with 49 none; with 4925 the last, with 5915 that and the first; with 4815 all three, and no match
+pub t03 :
+    map (comparison (4 ∷ 9 ∷ 1 ∷ [])) ((4 ∷ 9 ∷ 1 ∷ 5 ∷ []) ∷ (4 ∷ 9 ∷ 1 ∷ []) ∷ (4 ∷ 9 ∷ []) ∷ (4 ∷ 9 ∷ 2 ∷ 5 ∷ []) ∷ (5 ∷ 9 ∷ 1 ∷ 5 ∷ []) ∷ (4 ∷ 8 ∷ 1 ∷ 5 ∷ []) ∷ [])
+    ≡ leading 3 ∷ leading 3 ∷ notLeading 0 ∷ notLeading 1 ∷ notLeading 2 ∷ notLeading 3 ∷ []
+unfolding pairsOf compareOn comparison
+t03 = refl
 
 abbrev badItems : List (List ℕ)
 badItems =

@@ -1,4 +1,5 @@
 pub mod ByteLaws
+pub mod ComparisonLaws
 pub mod ItemLaws
 pub mod WriteLaws
 pub mod ProfileLaws
@@ -7,4 +8,5 @@ pub mod Walks
 pub mod ItemTheorems
 pub mod ProfileTheorems
 pub mod FeederTheorems
+pub mod ComparisonTheorems
 pub mod Cases

@@ -5,4 +5,5 @@ pub mod Framing
 pub mod Item
 pub mod Write
 pub mod Feeder
+pub mod Comparison
 pub mod Profile

@@ -6,6 +6,7 @@ ghost use lib.ListN.{getD};
 ghost use Rattle.forms.specs.Fields.{allInRange};
 ghost use Rattle.forms.specs.Profile.{handlingOf, criterionOf, criterionAt, numberFields, senseInRange, listAt, listEnd, numberAt, numbersAt, numbersEnd, viewAt, viewOf, profileOf, isProfile, readProfile, matches, someMatches};
 use crate::bytes;
+use crate::comparison;
 use crate::fields;
 use crate::units::Seconds;
 
@@ -187,7 +188,7 @@ fn match_at(s: &[u8], q: usize, nature: u8, dialled: &[u8]) -> bool
     requires { ⌜ q ≤ 70000 ⌝ }
     ensures { λ r. ⌜ r ≡ matches (numberAt (now (s .entry)) q) nature (now (dialled .entry)) ⌝ }
 {
-    (bytes::at(s, q) == nature) & bytes::leads(list_at(s, q + 1), dialled)
+    (bytes::at(s, q) == nature) & comparison::compare(list_at(s, q + 1), dialled).leads
 }
 
 // Some stored number of the profile matches the dialled one.

@@ -1,4 +1,5 @@
 use borrow.Author.Needs.{needs}
+use Rattle.forms.proofs.ComparisonLaws.{as-before}
 use Rattle.forms.proofs.profile.match_at.Statement.{statement}
 use Rattle.forms.proofs.profile.match_at.Tie as tie
 
@@ -6,4 +7,4 @@ pub match-at-spec : {M : Type 1} → statement M
 match-at-spec =
     tie.close
     (tie.spec
-    (λ c κs. search needs) (λ c. search needs) (λ c κs. search needs) (λ c κs. search needs) (λ c. rw (c .leads .ensures, c .before .list-at .ensures, c .before .before .at .ensures)))
+    (λ c κs. search needs) (λ c. search needs) (λ c κs. search needs) (λ c κs. search needs) (λ c. rw (c .before .compare .ensures, as-before, c .before .before .list-at .ensures, c .before .before .before .at .ensures)))
