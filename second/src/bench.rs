@@ -259,7 +259,8 @@ fn measure_feeding(bench: &str, file: &Path, extent: &Extent) -> io::Result<()> 
                 round: &round,
                 file,
             };
-            let [proved, second] = feeding.measure(&programs, extent)?.nanoseconds;
+            let [measured] = measure_in_turn([feeding], &programs, extent)?;
+            let [proved, second] = measured.nanoseconds;
             let ratio = proved / second;
             println!("| {name} | {open} | {proved:.1} | {second:.1} | {ratio:.2} |");
         }
@@ -284,17 +285,13 @@ fn measure_triggers(bench: &str, file: &Path, extent: &Extent) -> io::Result<()>
     println!("|---|---:|---:|---:|---:|---:|---:|---:|---:|---:|");
     for (dialled, name) in DIALLED_WITH_LONG_LIST {
         let round = triggers::round(LONG_LIST, &[dialled]).map_err(io::Error::other)?;
-        let measure = |function| {
-            let checks = Repeated {
-                function,
-                name,
-                round: &round,
-                file,
-            };
-            checks.measure(&programs, extent)
-        };
-        let before = measure(FROM_FRONT)?;
-        let after = measure(LAST_FIRST)?;
+        let checks = [FROM_FRONT, LAST_FIRST].map(|function| Repeated {
+            function,
+            name,
+            round: &round,
+            file,
+        });
+        let [before, after] = measure_in_turn(checks, &programs, extent)?;
         let pairs = [before.pairs_per_check()?, after.pairs_per_check()?];
         let mut line = format!("| {name} |{}", ratio_cells(pairs, 0));
         for (before, after) in before.nanoseconds.into_iter().zip(after.nanoseconds) {
@@ -374,25 +371,66 @@ impl Repeated<'_> {
         }
         Ok(rounds)
     }
+}
 
-    /// Runs of two lengths, so that start-up does not count.
-    fn measure(&self, programs: &[Program; 2], extent: &Extent) -> io::Result<Measured> {
-        let long = self.enough_rounds(programs, extent)?;
-        let short = long / 4;
-        let mut long_times = [Duration::MAX; 2];
-        let mut short_times = [Duration::MAX; 2];
-        let mut said = String::new();
-        for _ in 0..extent.repeats {
-            let times;
-            (times, said) = self.time(programs, long)?;
-            keep_best(&mut long_times, times);
-            keep_best(&mut short_times, self.time(programs, short)?.0);
-        }
-        let items = f64::from((long - short) * item_count(self.round));
+/// The best times so far. Runs of two lengths, so that start-up does not count.
+struct Measuring<'a> {
+    work: Repeated<'a>,
+    long: u32,
+    long_times: [Duration; 2],
+    short_times: [Duration; 2],
+    said: String,
+}
+
+impl Measuring<'_> {
+    fn short(&self) -> u32 {
+        self.long / 4
+    }
+
+    fn repeat(&mut self, programs: &[Program; 2]) -> io::Result<()> {
+        let (times, said) = self.work.time(programs, self.long)?;
+        keep_best(&mut self.long_times, times);
+        let (times, _) = self.work.time(programs, self.short())?;
+        keep_best(&mut self.short_times, times);
+        self.said = said;
+        Ok(())
+    }
+
+    fn measured(self) -> Measured {
+        let items = f64::from((self.long - self.short()) * item_count(self.work.round));
         let nanoseconds = [0, 1].map(|place| {
-            let time = long_times[place].saturating_sub(short_times[place]);
+            let time = self.long_times[place].saturating_sub(self.short_times[place]);
             time.as_secs_f64() * 1e9 / items
         });
-        Ok(Measured { nanoseconds, said })
+        Measured {
+            nanoseconds,
+            said: self.said,
+        }
     }
+}
+
+/// All of them in turn, so that a slower minute of the machine does not fall on
+/// one of them alone.
+fn measure_in_turn<const N: usize>(
+    works: [Repeated; N],
+    programs: &[Program; 2],
+    extent: &Extent,
+) -> io::Result<[Measured; N]> {
+    let mut measurings = Vec::new();
+    for work in works {
+        measurings.push(Measuring {
+            long: work.enough_rounds(programs, extent)?,
+            work,
+            long_times: [Duration::MAX; 2],
+            short_times: [Duration::MAX; 2],
+            said: String::new(),
+        });
+    }
+    for _ in 0..extent.repeats {
+        for measuring in &mut measurings {
+            measuring.repeat(programs)?;
+        }
+    }
+    let measured: Vec<_> = measurings.into_iter().map(Measuring::measured).collect();
+    Ok(measured.try_into().ok().expect("one each"))
 }

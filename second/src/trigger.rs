@@ -82,7 +82,7 @@ pub fn compare(stored: &[u8], dialled: &[u8]) -> Compared {
     }
 }
 
-/// The same in one run from the front, as it was before T-03.
+/// The same in one run from the front: the order before T-03, with its count.
 pub fn compare_from_front(stored: &[u8], dialled: &[u8]) -> Compared {
     let Some(dialled) = dialled.get(..stored.len()) else {
         return Compared::differing(0);

@@ -14,7 +14,7 @@ use std::hint::black_box;
 
 /// Which comparison of digits a check is made with.
 pub const LAST_FIRST: u8 = 2;
-/// As it was before T-03.
+/// The order before T-03, with its count.
 pub const FROM_FRONT: u8 = 3;
 
 /// The list that T-03 is about: ten numbers that share all but the last of

@@ -1,7 +1,7 @@
 // A benchmark program: items fed over and over to one table, by the public `feed` or by `feed_sound`; or trigger checks (trigger.rt).
 // Standard input: what to do (1 byte), how often (4 bytes), a profile, and items to the end, after the last of which comes the first again; at most 65536 bytes.
 // 0 `feed`, 1 `feed_sound`: writes how many items were fed and how many of them were refused.
-// 2 trigger checks with the last digit first, 3 from the front; the items are Setups: writes how many checks were made, in how many a stored number matched, and how many digit pairs were compared.
+// 2 trigger checks with the last digit first, any other number from the front; the items are Setups: writes how many checks were made, in how many a stored number matched, and how many digit pairs were compared.
 mod trigger;
 
 ghost use Prim.Native.Nat.{_<_};
@@ -44,7 +44,7 @@ fn first_place(buf: &[u8]) -> usize {
     sum(HEAD, size_at(buf, HEAD))
 }
 
-// How many items are to be fed.
+// How many items are to be fed, or checks to be made.
 fn total(buf: &[u8]) -> usize {
     bytes::number2(bytes::from(buf, 1)) * 65536 + bytes::number2(bytes::from(buf, 3))
 }

@@ -1,5 +1,5 @@
 // Trigger checks: a Setup's dialled number against the stored numbers of a profile, with the digit pairs that are compared.
-// Digits are compared as the engine does it, the last one first (document 02, T-03), or from the front, as it was before.
+// Digits are compared by the engine's comparison, the last one first (document 02, T-03), or all from the front: the old order with the new count, so that nothing but the order differs.
 use crate::sum;
 use forms::bytes;
 use forms::comparison;
@@ -10,6 +10,11 @@ use forms::profile;
 const NATURE: usize = 14;
 
 const DIALLED: usize = 17;
+
+// Where a profile has its number count, and the first number.
+const COUNT: usize = 6;
+
+const FIRST: usize = 7;
 
 // Of one check or of several: in how many a stored number matched, and how many digit pairs were compared.
 pub struct Checked {
@@ -58,8 +63,8 @@ fn place_after(profile: &[u8], at: usize) -> usize {
 pub(crate) fn check(profile: &[u8], setup: &[u8], last_first: bool) -> Checked {
     let nature = bytes::at(setup, NATURE);
     let dialled = profile::list_at(setup, DIALLED);
-    let mut left = bytes::at(profile, 6);
-    let mut at: usize = 7;
+    let mut left = bytes::at(profile, COUNT);
+    let mut at = FIRST;
     let mut pairs: usize = 0;
     while 0 < left {
         let c = compare_at(profile, at, nature, dialled, last_first);

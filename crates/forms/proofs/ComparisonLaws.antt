@@ -1,29 +1,29 @@
 -- Laws of the digit comparison: for the proof of `compare`, and that what it answers is what `leads` says.
 use Prim.Native.Nat.{ℕ, zero, suc, _+_, _-_, _≤_, _<_}
-use mathlib.Core.Path.{_≡_, refl, _∙_}
+use mathlib.Core.Path.{_≡_, refl}
 use mathlib.Core.List.{List, [], _∷_}
 use mathlib.Core.Bool.{Bool, true, false, _&&_, and-true, and-false, and-comm, and-assoc}
 use mathlib.Core.Logic.{⊎-elim}
 use native.Mathlib.Numerals.{add-one}
 use native.Mathlib.Nat.{add-suc}
 use native.Mathlib.Omega.{arith}
-use lib.ListN.{length, getD, take, drop, drop-of-length-le}
+use lib.ListN.{length, getD, take, drop, drop-of-length-le, length-append, length-drop}
 use lib.Dec.{eqb}
 use lib.Seq.{drop-cons, length-take-le}
 use borrow.Author.Tests.{eq-eqb, ne-eqb, le-ltb, lt-ltb}
 use Rattle.forms.specs.Bytes.{leads}
-use Rattle.forms.specs.Comparison.{leading, notLeading, pairsOf, compareOn, comparison}
+use Rattle.forms.specs.Comparison.{leading, notLeading, pairsOf, lastFirst, compareOn, comparison}
 use Rattle.forms.proofs.ByteLaws.{below-or-past}
 
 -- ---- the pairs, and their order
 
-pub length-pairs : (a d : List ℕ) → length a ≤ length d → length (pairsOf a d) ≡ length a
+length-pairs : (a d : List ℕ) → length a ≤ length d → length (pairsOf a d) ≡ length a
 unfolding pairsOf
 length-pairs [] d h = refl
 length-pairs (x ∷ a) [] h = omega arith
 length-pairs (x ∷ a) (y ∷ d) h = rw (length-pairs a d (omega arith))
 
-pub pair-at : (a d : List ℕ) (i : ℕ) → i < length a → i < length d → getD (pairsOf a d) i false ≡ eqb (getD a i 0) (getD d i 0)
+pair-at : (a d : List ℕ) (i : ℕ) → i < length a → i < length d → getD (pairsOf a d) i false ≡ eqb (getD a i 0) (getD d i 0)
 unfolding pairsOf
 pair-at [] d i h l = absurd (omega arith)
 pair-at (x ∷ a) [] i h l = absurd (omega arith)
@@ -48,34 +48,39 @@ unfolding comparison pairsOf compareOn
 no-digits [] d e = rw (le-ltb (length d) 0 (omega arith))
 no-digits (x ∷ a) d e = absurd (omega arith)
 
+-- a dialled number that is not shorter: every pair has its place in the order
+pub compared : (a d : List ℕ) → length a ≤ length d → comparison a d ≡ compareOn 0 (lastFirst (pairsOf a d))
+unfolding comparison
+compared a d l = rw (le-ltb (length d) (length a) l)
+
+pub length-order : (a d : List ℕ) → length a ≤ length d → length (lastFirst (pairsOf a d)) ≡ length a
+length-order a d l =
+    let ps = pairsOf a d in
+    let last = length ps - 1 in
+    rw (length-append (drop last ps) (take last ps), length-drop last ps, length-take-le last ps (omega arith)) (omega (arith, length-pairs a d l))
+
 -- of two numbers that are compared: the pair compared first, and those from the front
-abbrev pub lastPair : List ℕ → List ℕ → Bool
+abbrev lastPair : List ℕ → List ℕ → Bool
 lastPair a d = eqb (getD a (length a - 1) 0) (getD d (length a - 1) 0)
 
-abbrev pub frontPairs : List ℕ → List ℕ → List Bool
+abbrev frontPairs : List ℕ → List ℕ → List Bool
 frontPairs a d = pairsOf (take (length a - 1) a) d
 
 module _ (a d : List ℕ) (h : 0 < length a) (l : length a ≤ length d) where
   abbrev last : ℕ
   last = length a - 1
 
-  pub in-order : comparison a d ≡ compareOn 0 (lastPair a d ∷ frontPairs a d)
-  unfolding comparison
+  in-order : comparison a d ≡ compareOn 0 (lastPair a d ∷ frontPairs a d)
   in-order =
       let n = length-pairs a d l in
       rw (
-        le-ltb (length d) (length a) l,
+        compared a d l,
         n,
         drop-cons (pairsOf a d) last false (omega (arith, n)),
         drop-of-length-le (pairsOf a d) {i = suc last} (omega (arith, n)),
         pair-at a d last (omega arith) (omega arith),
         take-pairs last a d,
       )
-
-  pub front-length : length (frontPairs a d) ≡ last
-  front-length =
-      let e : length (take last a) ≡ last = length-take-le last a (omega arith) in
-      length-pairs (take last a) d (omega (arith, e)) ∙ e
 
   pub last-differs : (getD a last 0 ≡ getD d last 0 → ⊥) → comparison a d ≡ notLeading 1
   unfolding compareOn
@@ -103,7 +108,7 @@ module _ (a d : List ℕ) (i : ℕ) (h : i < length a) (l : i < length d) where
 -- ---- "Every answer stays as it is"
 
 -- whether the first of the pairs left agrees, and the others lead
-pub leads-next-pair : (n : ℕ) (p : Bool) (ps : List Bool) → compareOn n (p ∷ ps) .leads ≡ (p && compareOn (suc n) ps .leads)
+leads-next-pair : (n : ℕ) (p : Bool) (ps : List Bool) → compareOn n (p ∷ ps) .leads ≡ (p && compareOn (suc n) ps .leads)
 unfolding compareOn
 leads-next-pair n true ps = refl
 leads-next-pair n false ps = refl

@@ -6,7 +6,7 @@ use lib.ListN.{length, take, drop}
 use lib.Dec.{eqb, ltb}
 use Rattle.forms.specs.declared.comparison.Comparison.{Comparison}
 
--- the stored digits lead the dialled number, or do not, which so many digit pairs have shown
+-- the stored digits lead the dialled number, or do not; n digit pairs were compared
 abbrev pub leading : ℕ → Comparison
 leading n = record { leads = true; pairs = n }
 

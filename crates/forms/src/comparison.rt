@@ -10,7 +10,7 @@ pub struct Comparison {
     pub pairs: usize,
 }
 
-// They lead, or they do not: so many pairs have shown it.
+// They lead, or they do not; so many pairs were compared.
 pub fn leading(pairs: usize) -> Comparison
     ensures { λ r. ⌜ r ≡ leading pairs ⌝ }
 {
@@ -41,6 +41,7 @@ fn compare_front(stored: &[u8], dialled: &[u8]) -> Comparison
     leading(i + 1)
 }
 
+// No pair if the dialled number is shorter, else the last, and while all agree those from the front.
 pub fn compare(stored: &[u8], dialled: &[u8]) -> Comparison
     ensures { λ r. ⌜ r ≡ comparison (now (stored .entry)) (now (dialled .entry)) ⌝ }
 {

@@ -188,7 +188,10 @@ fn match_at(s: &[u8], q: usize, nature: u8, dialled: &[u8]) -> bool
     requires { ⌜ q ≤ 70000 ⌝ }
     ensures { λ r. ⌜ r ≡ matches (numberAt (now (s .entry)) q) nature (now (dialled .entry)) ⌝ }
 {
-    (bytes::at(s, q) == nature) & comparison::compare(list_at(s, q + 1), dialled).leads
+    if bytes::at(s, q) != nature {
+        return false;
+    }
+    comparison::compare(list_at(s, q + 1), dialled).leads
 }
 
 // Some stored number of the profile matches the dialled one.
