@@ -1,13 +1,13 @@
 -- Laws of the digit comparison: for the proof of `compare`, and that what it answers is what `leads` says.
 use Prim.Native.Nat.{ℕ, zero, suc, _+_, _-_, _≤_, _<_}
-use mathlib.Core.Path.{_≡_, refl}
-use mathlib.Core.List.{List, [], _∷_}
-use mathlib.Core.Bool.{Bool, true, false, _&&_, and-true, and-false, and-comm, and-assoc}
+use mathlib.Core.Path.{_≡_, refl, sym, ap, _∙_}
+use mathlib.Core.List.{List, [], _∷_, _++_}
+use mathlib.Core.Bool.{Bool, true, false, _&&_, and-false, and-comm}
 use mathlib.Core.Logic.{⊎-elim}
 use native.Mathlib.Numerals.{add-one}
 use native.Mathlib.Nat.{add-suc}
 use native.Mathlib.Omega.{arith}
-use lib.ListN.{length, getD, take, drop, drop-of-length-le, length-append, length-drop}
+use lib.ListN.{length, getD, take, drop, drop-of-length-le, length-append, length-drop, take-append-drop}
 use lib.Dec.{eqb}
 use lib.Seq.{drop-cons, length-take-le}
 use borrow.Author.Tests.{eq-eqb, ne-eqb, le-ltb, lt-ltb}
@@ -59,18 +59,12 @@ length-order a d l =
     let last = length ps - 1 in
     rw (length-append (drop last ps) (take last ps), length-drop last ps, length-take-le last ps (omega arith)) (omega (arith, length-pairs a d l))
 
--- of two numbers that are compared: the pair compared first, and those from the front
-abbrev lastPair : List ℕ → List ℕ → Bool
-lastPair a d = eqb (getD a (length a - 1) 0) (getD d (length a - 1) 0)
-
-abbrev frontPairs : List ℕ → List ℕ → List Bool
-frontPairs a d = pairsOf (take (length a - 1) a) d
-
+-- the pair compared first, and those from the front
 module _ (a d : List ℕ) (h : 0 < length a) (l : length a ≤ length d) where
   abbrev last : ℕ
   last = length a - 1
 
-  in-order : comparison a d ≡ compareOn 0 (lastPair a d ∷ frontPairs a d)
+  in-order : comparison a d ≡ compareOn 0 (eqb (getD a last 0) (getD d last 0) ∷ pairsOf (take last a) d)
   in-order =
       let n = length-pairs a d l in
       rw (
@@ -86,7 +80,7 @@ module _ (a d : List ℕ) (h : 0 < length a) (l : length a ≤ length d) where
   unfolding compareOn
   last-differs e = rw (in-order, ne-eqb _ _ e)
 
-  pub last-agrees : getD a last 0 ≡ getD d last 0 → comparison a d ≡ compareOn 1 (frontPairs a d)
+  pub last-agrees : getD a last 0 ≡ getD d last 0 → comparison a d ≡ compareOn 1 (pairsOf (take last a) d)
   unfolding compareOn
   last-agrees e = rw (in-order, eq-eqb _ _ e)
 
@@ -107,17 +101,33 @@ module _ (a d : List ℕ) (i : ℕ) (h : i < length a) (l : i < length d) where
 
 -- ---- "Every answer stays as it is"
 
--- whether the first of the pairs left agrees, and the others lead
-leads-next-pair : (n : ℕ) (p : Bool) (ps : List Bool) → compareOn n (p ∷ ps) .leads ≡ (p && compareOn (suc n) ps .leads)
+-- they lead where all agree, however many were compared before, and in whatever order
+same-leads : (n m : ℕ) (ps : List Bool) → compareOn n ps .leads ≡ compareOn m ps .leads
 unfolding compareOn
-leads-next-pair n true ps = refl
-leads-next-pair n false ps = refl
+same-leads n m [] = refl
+same-leads n m (true ∷ ps) = same-leads (suc n) (suc m) ps
+same-leads n m (false ∷ ps) = refl
+
+leads-append : (n m : ℕ) (ps qs : List Bool) → compareOn n (ps ++ qs) .leads ≡ (compareOn n ps .leads && compareOn m qs .leads)
+unfolding compareOn
+leads-append n m [] qs = same-leads n m qs
+leads-append n m (true ∷ ps) qs = leads-append (suc n) m ps qs
+leads-append n m (false ∷ ps) qs = refl
+
+turned : (k : ℕ) (ps : List Bool) → compareOn 0 (drop k ps ++ take k ps) .leads ≡ compareOn 0 ps .leads
+turned k ps =
+    leads-append 0 0 (drop k ps) (take k ps) ∙ and-comm (compareOn 0 (drop k ps) .leads) (compareOn 0 (take k ps) .leads)
+    ∙ sym (leads-append 0 0 (take k ps) (drop k ps)) ∙ ap (λ (qs : List Bool). compareOn 0 qs .leads) (take-append-drop k ps)
 
 pairs-lead : (n : ℕ) (a d : List ℕ) → length a ≤ length d → compareOn n (pairsOf a d) .leads ≡ leads a d
 unfolding pairsOf compareOn leads
 pairs-lead n [] d h = refl
 pairs-lead n (x ∷ a) [] h = absurd (omega arith)
-pairs-lead n (x ∷ a) (y ∷ d) h = rw (leads-next-pair n (eqb x y) (pairsOf a d), pairs-lead (suc n) a d (omega arith))
+pairs-lead n (x ∷ a) (y ∷ d) h = go (eqb x y) (pairs-lead (suc n) a d (omega arith))
+  where
+    go : (p : Bool) → compareOn (suc n) (pairsOf a d) .leads ≡ leads a d → compareOn n (p ∷ pairsOf a d) .leads ≡ (p && leads a d)
+    go true e = e
+    go false e = refl
 
 shorter-leads : (a d : List ℕ) → length d < length a → leads a d ≡ false
 unfolding leads
@@ -125,29 +135,10 @@ shorter-leads [] d h = absurd (omega arith)
 shorter-leads (x ∷ a) [] h = refl
 shorter-leads (x ∷ a) (y ∷ d) h = rw (shorter-leads a d (omega arith)) (simp and-false)
 
--- a run leads where all before its last element do, and the last agrees
-leads-last : (a d : List ℕ) (last : ℕ) → suc last ≡ length a → last < length d → leads a d ≡ (leads (take last a) d && eqb (getD a last 0) (getD d last 0))
-unfolding leads
-leads-last [] d last e l = absurd (omega arith)
-leads-last (x ∷ a) [] last e l = absurd (omega arith)
-leads-last (x ∷ []) (y ∷ d) zero e l = and-true (eqb x y)
-leads-last (x ∷ z ∷ a) (y ∷ d) zero e l = absurd (omega arith)
-leads-last (x ∷ a) (y ∷ d) (suc last) e l = rw (leads-last a d last (omega arith) (omega arith), and-assoc)
-
 -- what the comparison answers is what it was before
 pub as-before : (a d : List ℕ) → comparison a d .leads ≡ leads a d
-unfolding leads
-as-before [] d = rw (no-digits [] d refl)
-as-before (x ∷ xs) d = ⊎-elim (λ h. rw (shorter a d h, shorter-leads a d h)) long (below-or-past (length d) (length a))
-  where
-    a : List ℕ
-    a = x ∷ xs
-
-    last : ℕ
-    last = length a - 1
-
-    long : length a ≤ length d → comparison a d .leads ≡ leads a d
-    long l =
-        let e : length (take last a) ≡ last = length-take-le last a (omega arith) in
-        rw (in-order a d (omega arith) l, leads-next-pair 0 (lastPair a d) (frontPairs a d), pairs-lead 1 (take last a) d (omega (arith, e)), leads-last a d last (omega arith) (omega arith))
-        (and-comm (lastPair a d) (leads (take last a) d))
+as-before a d =
+    ⊎-elim
+    (λ s. rw (shorter a d s, shorter-leads a d s))
+    (λ l. rw (compared a d l) (turned (length (pairsOf a d) - 1) (pairsOf a d) ∙ pairs-lead 0 a d l))
+    (below-or-past (length d) (length a))

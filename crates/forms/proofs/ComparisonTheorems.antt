@@ -1,4 +1,4 @@
--- Document 02, T-03: what the count of digit pairs tells, in terms of the digits. Each case has its count: a shorter dialled number (`ComparisonLaws.shorter`), last digits that differ (`last-differs`), a match (`full`), a difference further in front (`stops`).
+-- Document 02, T-03: what the count of digit pairs tells, in terms of the digits. Each case has its count: a shorter dialled number (`ComparisonLaws.shorter`), a stored one without digits (`no-digits`), last digits that differ (`last-differs`), a match (`full`), a difference further in front (`stops`).
 use Prim.Native.Nat.{ℕ, zero, suc, _+_, _-_, _≤_, _<_}
 use mathlib.Core.Path.{_≡_, _∙_}
 use mathlib.Core.List.{List, [], _∷_}
