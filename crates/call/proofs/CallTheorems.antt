@@ -28,7 +28,7 @@ use Rattle.call.specs.Points.{roles, placeOf, isRole, legOf, isOnLeg, is
 use Rattle.call.specs.Charging.{isPresent, isPending, isStarted, answered, granted, reportOf}
 use Rattle.call.specs.Relationship.{isMode, someArmed, isHeld, isTrigger, relationshipOf, isRelated}
 use Rattle.call.specs.Record.{blank, noTimer, legAt}
-use Rattle.call.specs.Answers.{Row, firstOf, guarded}
+use Rattle.call.specs.Answers.{Row, isAccepted, firstOf, guarded}
 use Rattle.call.specs.Events.{leaves, holdAfter, legAfter, endsCall, metRecord, met}
 use Rattle.call.specs.Operations.{routed, continued, dropped, isRelease, aborted, chargeApplied}
 use Rattle.call.specs.Refusals.{row1Time, rowsOf}
@@ -147,10 +147,6 @@ rows-rise r kind.Release t rest = refl
 rows-rise r (kind.ApplyCharging l period) t rest = refl
 rows-rise r kind.ActivityTest t rest = refl
 rows-rise r kind.Abort t rest = refl
-
-abbrev pub isAccepted : Answer → Bool
-isAccepted (Accepted o) = true
-isAccepted (Refused n) = false
 
 -- an accepted item passed the rows
 pub not-refused : (c : Check) (r : Record) (s : Stepped) → isAccepted (guarded c r s .answer) ≡ true → c ≡ Pass

@@ -21,41 +21,13 @@ use Rattle.call.specs.declared.step.Kind.the-variants as kind
 use Rattle.call.specs.Points.{roles, placeOf, isRole, pointOf, legOf, roleIn}
 use Rattle.call.specs.Record.{timed, armedAs}
 use Rattle.call.specs.Relationship.{modeOf}
-use Rattle.call.specs.Answers.{Row, firstOf, guarded}
+use Rattle.call.specs.Answers.{Row, isAccepted, firstOf, guarded}
 use Rattle.call.specs.Arming.{entriesOf, named, isModeFor, isGood, seenAfter, areGood, noneSeen, keptAfter, armedBy, armedWith, requestReport}
 use Rattle.call.specs.Refusals.{row1Time, rowsOf}
 use Rattle.call.specs.Step.{respondOf}
 use Rattle.call.proofs.Laws.{same-tenths, no-row}
-use Rattle.call.proofs.CallTheorems.{place-injective, isAccepted, not-refused}
-
--- ---- the statement's words
-
--- an arming request, kind 20: how many entries, and their bytes
-pub record Request : Type 0 where
-  pub count : ℕ
-  pub bytes : List ℕ
-
-abbrev pub entries : Request → List Entry
-entries a = entriesOf (a .count) (a .bytes)
-
--- "name no pair of leg and point in common"
-abbrev pub Apart : Entry → Entry → Type 0
-Apart e f = e .leg ≡ f .leg → e .point ≡ f .point → ⊥
-
-abbrev pub Disjoint : Request → Request → Type 0
-Disjoint a b = (e f : Entry) → In e (entries a) → In f (entries b) → Apart e f
-
--- the call n is asked a at t; a at t, and then b at u
-abbrev pub asked : ℕ → Record → Request → Tenths → Stepped
-asked n r a t = respondOf r (record { call = n; time = t; body = body.RequestReport (a .count) }) (a .bytes)
-
-abbrev pub inTurn : ℕ → Record → Request → Tenths → Request → Tenths → Stepped
-inTurn n r a t b u = asked n (asked n r a t .next) b u
-
--- "both orders are accepted": this one, a at t and then b at u
-pub record BothAccepted (n : ℕ) (r : Record) (a : Request) (t : Tenths) (b : Request) (u : Tenths) : Type 0 where
-  pub first : isAccepted (asked n r a t .answer) ≡ true
-  pub second : isAccepted (inTurn n r a t b u .answer) ≡ true
+use Rattle.call.specs.Order.{Request, entries, Apart, Disjoint, asked, inTurn, BothAccepted}
+use Rattle.call.proofs.CallTheorems.{place-injective, not-refused}
 
 -- ---- two entries
 

@@ -2,7 +2,7 @@
 use Prim.Native.Nat.{ℕ}
 use mathlib.Core.Bool.{Bool, true, false, cond}
 use mathlib.Core.List.{List, [], _∷_}
-use Rattle.call.specs.Types.{Tenths, Record, Report, ChargeReport, Reports, Deadline, Check, Stepped}
+use Rattle.call.specs.Types.{Tenths, Record, Report, ChargeReport, Reports, Deadline, Answer, Check, Stepped}
 use Rattle.call.specs.declared.record.Hold.the-variants as hold
 use Rattle.call.specs.declared.answers.Relationship.the-variants as relationship
 use Rattle.call.specs.declared.answers.Report.the-variants as report
@@ -37,6 +37,11 @@ ended r event t = record {
   answer = Accepted (record { relationship = relationship.None; hold = hold.None; reports = reports event (reportOf t (r .leg1 .charge)) (reportOf t (r .leg2 .charge)); deadline = deadline.None; over = true });
   next = blank;
 }
+
+-- a refusal is told from what is accepted
+abbrev pub isAccepted : Answer → Bool
+isAccepted (Accepted o) = true
+isAccepted (Refused n) = false
 
 -- "Each returns its number alone and changes nothing."
 abbrev pub refused : Record → ℕ → Stepped

@@ -13,3 +13,4 @@ pub mod Refusals
 pub mod Step
 pub mod Setup
 pub mod Alone
+pub mod Order

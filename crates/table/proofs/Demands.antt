@@ -1,30 +1,36 @@
 -- The three demands hold of whatever keeps to `feed`'s contract.
 use Prim.Native.Nat.{ℕ}
 use mathlib.Core.Path.{_≡_, refl, sym, ap, _∙_}
-use mathlib.Core.Bool.{Bool, true, false, not, cond, false≢true}
-use mathlib.Core.List.{List, [], _∷_, map}
+use mathlib.Core.Bool.{Bool, true, false, cond, false≢true}
+use mathlib.Core.List.{List, [], _∷_, _++_, map}
 use mathlib.Core.Option.{Option, none, some}
-use lib.Dec.{leb, eqb}
-use lib.ListN.{getD, set}
-use borrow.Author.Tests.{leb-true}
-use Rattle.forms.specs.Bytes.{within}
-use Rattle.forms.specs.Item.{isItem}
-use Rattle.forms.specs.Profile.{profileOf, isProfile}
-use Rattle.forms.proofs.ByteLaws.{and-left, and-right}
+use lib.ListN.{getD, set, take, drop}
+use Rattle.forms.specs.Bytes.{all, contains}
+use Rattle.forms.specs.Units.{isPeriod, isTimer}
+use Rattle.forms.specs.Item.{itemOf, isItem, readItem, placed, readItemAt}
+use Rattle.forms.specs.Write.{writable, written}
+use Rattle.forms.specs.Profile.{profileOf, isProfile, readProfile}
+use Rattle.forms.specs.Feeder.{bytesOf, takeOf, completedAs, fedAs, feedOf as feederOf}
+use Rattle.forms.specs.declared.feeder.Feeder.{Feeder}
+use Rattle.forms.specs.declared.feeder.Taken.{Taken}
+use Rattle.forms.specs.declared.feeder.Taken.the-variants as taken
 use Rattle.forms.proofs.ItemTheorems.{written-read, one-run}
 use Rattle.call.specs.declared.answers.Answer.the-variants.{Accepted, Refused}
 use Rattle.call.specs.Setup.{openOf}
-use Rattle.call.specs.Step.{isSetup, respondOf}
+use Rattle.call.specs.Step.{isSetup, respondOf, stepOf}
 use Rattle.call.specs.Alone.{Fed}
-use Rattle.call.proofs.CallTheorems.{isAccepted, isOver}
+use Rattle.call.proofs.Laws.{on-cond}
+use Rattle.call.specs.Answers.{isAccepted}
+use Rattle.call.proofs.CallTheorems.{isOver}
+use Rattle.call.proofs.Numbers.{isOneOf, accepted-one, one-of-more, respondNumbers, stepNumbers, openNumbers, respond-numbers, step-numbers, open-numbers}
 use Rattle.call.proofs.Order.{either-order, either-order-items}
 use Rattle.table.specs.Types.{Record, Answer, Stepped, Entry}
 use Rattle.table.specs.Runs.{log, final}
 use Rattle.table.specs.Table.{goes, ends, unless, damage, fresh, tableStep, serve, setupAt, otherAt, place, store}
 use Rattle.table.specs.Entry.{ownedBy, blankEntry, ourSlots}
 use Rattle.table.specs.Feed.{itemIn, restIn, earlyOf, effectAs, ourCall, isSoundTable, feedStep}
+use Rattle.table.specs.EntryPoints.{EntryPoint, period, timer, read-item, read-item-at, write-item, read-profile, feed-chunk, open-call, respond, step, feed, feed-sound, numbers, inPeriod, inTimer, inReadItem, inWritten, inReadProfile, inOutcome, inAnswer, refusal}
 use Rattle.table.specs.Demands.{Turn, Feeds, Demand1, ownSlot, freeSlot, stored, firstRow, rows, slot, made, due, Demand2, Run, endOf, Started, ending, fed, line, Demand3, Demands}
-use Rattle.table.proofs.Numbers.{isNumbered, accepted-numbered, respond-numbered}
 use Rattle.table.proofs.Ours.{item-fits, Opens, setup-opens, ours}
 
 -- ---- demand 2: the rows in their order, then what `call` makes of the item
@@ -45,41 +51,39 @@ opened-so t k i s (h, o) = go (s .answer) h o
     go (Accepted o) h e = rw e
     go (Refused n) h e = absurd (false≢true h)
 
--- a refusal's number is one of document 01's
-abbrev isListed : Answer → Bool
-isListed (Refused n) = within 1 14 n
-isListed (Accepted o) = true
-
-numbered-listed : (a : Answer) → isNumbered a ≡ true → isListed a ≡ true
-numbered-listed (Refused n) h = and-left (within 1 14 n) (not (eqb n 3)) h
-numbered-listed (Accepted o) h = refl
+-- the numbers that are given on a sound table, and on one that is not
+abbrev pub numbersOn : Bool → List ℕ
+numbersOn true = 1 ∷ 2 ∷ 4 ∷ 5 ∷ 6 ∷ 7 ∷ 8 ∷ 9 ∷ 10 ∷ 11 ∷ 12 ∷ 13 ∷ 14 ∷ []
+numbersOn false = 1 ∷ 2 ∷ 3 ∷ []
 
 module _ (t : List Entry) (x : Fed) where
   abbrev Right : Type 0
-  Right = (feedStep t x ≡ due t x) × (isListed (due t x .0) ≡ true)
+  Right = (feedStep t x ≡ due t x) × (isOneOf (numbersOn (isSoundTable t)) (due t x .0) ≡ true)
 
   right : Right
-  unfolding tableStep earlyOf unless damage serve setupAt otherAt place
+  unfolding tableStep earlyOf unless damage serve setupAt otherAt place all contains
   right =
       go (isItem (itemIn x) (x .item)) (isSetup (itemIn x)) (isProfile (profileOf (x .profile)) (x .profile)) (isSoundTable t) (ownSlot t x) (freeSlot t x) refl refl refl refl refl refl
     where
       go : (i s p w : Bool) (o f : Option ℕ) → isItem (itemIn x) (x .item) ≡ i → isSetup (itemIn x) ≡ s → isProfile (profileOf (x .profile)) (x .profile) ≡ p → isSoundTable t ≡ w
           → ownSlot t x ≡ o → freeSlot t x ≡ f → Right
-      go false s p w o f a b c d e g = rw a (refl, refl)
-      go true true false w o f a b c d e g = rw (a, b, c) (refl, refl)
+      go false s p true o f a b c d e g = rw (a, d) (refl, refl)
+      go false s p false o f a b c d e g = rw (a, d) (refl, refl)
+      go true true false true o f a b c d e g = rw (a, b, c, d) (refl, refl)
+      go true true false false o f a b c d e g = rw (a, b, c, d) (refl, refl)
       go true true true false o f a b c d e g = rw (a, b, c, d) (refl, refl)
       go true false p false o f a b c d e g = rw (a, b, d) (refl, refl)
       go true false p true none f a b c d e g = rw (a, b, d, e) (refl, refl)
       go true false p true (some i) f a b c d e g =
           let r = getD t i blankEntry .body in
           let s = respondOf r (itemIn x) (restIn x) in
-          rw (a, b, d, e) (stored-so t (itemIn x .call) i (s .answer) (s .next), numbered-listed (s .answer) (respond-numbered r (itemIn x) (restIn x)))
+          rw (a, b, d, e) (stored-so t (itemIn x .call) i (s .answer) (s .next), one-of-more respondNumbers (numbersOn true) (s .answer) refl (respond-numbers r (itemIn x) (restIn x)))
       go true true true true (some i) f a b c d e g = rw (a, b, c, d, e) (refl, refl)
       go true true true true none none a b c d e g = rw (a, b, c, d, e, g) (refl, refl)
       go true true true true none (some j) a b c d e g =
           let s = openOf (itemIn x) (restIn x) (x .profile) in
           let q = setup-opens (itemIn x) (restIn x) (x .profile) (item-fits (itemIn x) (x .item) a) b c in
-          rw (a, b, c, d, e, g) (ap (λ u. (s .answer, u)) (opened-so t (itemIn x .call) j s q), numbered-listed (s .answer) (accepted-numbered (s .answer) (q .0)))
+          rw (a, b, c, d, e, g) (ap (λ u. (s .answer, u)) (opened-so t (itemIn x .call) j s q), accepted-one (numbersOn true) (s .answer) (q .0))
 
 abbrev given : Turn → Fed
 given f = record { item = f .item; profile = f .profile }
@@ -95,16 +99,65 @@ kept (some m) t k i a next n e = refl
 kept none t k i (Refused m) next n e = refl
 kept none t k i (Accepted o) next n e = cc
 
-demand1 : (f : Turn) → Feeds f → Demand1 f
-demand1 f e =
+unchanged : (f : Turn) → Feeds f → (n : ℕ) → f .answer ≡ Refused n → f .after ≡ f .before
+unchanged f e n h =
     let t = f .before in
     let x = given f in
     let q = demand2 f e in
     let answer : f .answer ≡ due t x .0 = ap (λ (d : Answer × List Entry). d .0) q in
-    record {
-      numbered = λ n h. let w = ap isListed (sym h ∙ answer) ∙ right t x .1 in (leb-true 1 n (and-left (leb 1 n) (leb n 14) w), leb-true n 14 (and-right (leb 1 n) (leb n 14) w));
-      unchanged = λ n h. ap (λ (d : Answer × List Entry). d .1) q ∙ kept (firstRow (rows t x)) t (itemIn x .call) (slot t x) (made t x .answer) (made t x .next) n (sym answer ∙ h);
-    }
+    ap (λ (d : Answer × List Entry). d .1) q ∙ kept (firstRow (rows t x)) t (itemIn x .call) (slot t x) (made t x .answer) (made t x .next) n (sym answer ∙ h)
+
+-- the refusal, if there is one, is one of ns
+abbrev isAmong : List ℕ → Option ℕ → Bool
+isAmong ns none = true
+isAmong ns (some n) = contains n ns
+
+abbrev Among : List ℕ → Option ℕ → Type 0
+Among ns x = isAmong ns x ≡ true
+
+answer-among : (ns : List ℕ) (a : Answer) → isOneOf ns a ≡ true → Among ns (inAnswer a)
+answer-among ns (Accepted o) h = refl
+answer-among ns (Refused n) h = h
+
+-- what is fed to a table, sound or not
+fed-among : (w : Bool) (t : List Entry) (x : Fed) (ns : List ℕ) → isSoundTable t ≡ w → all (λ n. contains n ns) (numbersOn w) ≡ true → Among ns (inAnswer (feedStep t x .0))
+fed-among w t x ns e h =
+    answer-among ns (feedStep t x .0)
+    (one-of-more (numbersOn w) ns (feedStep t x .0) h (rw (ap (λ (d : Answer × List Entry). d .0) (right t x .0), ← e) (right t x .1)))
+
+-- an item that a chunk completes is read; else a stop is 1 and a closed feeder 15
+chunk-among : (k : Taken) (f : Feeder) (c : List ℕ) → Among (1 ∷ 15 ∷ []) (inOutcome (fedAs k f c .outcome))
+unfolding readItem contains
+chunk-among taken.Closed f c = refl
+chunk-among (taken.Bad n) f c = refl
+chunk-among taken.Unfinished f c = refl
+chunk-among (taken.Whole n) f c = let s = bytesOf (f .held) ++ take n c in on-cond (λ x. Among (1 ∷ 15 ∷ []) (inOutcome (completedAs x n s .outcome))) (isItem (itemOf s) s) _ _ refl refl
+
+each-among : (e : EntryPoint) → Among (numbers e) (refusal e)
+unfolding readItem readItemAt written readProfile feederOf all contains
+each-among (period n) = on-cond (λ x. Among (1 ∷ []) (inPeriod x)) (isPeriod (record { 0 = n })) _ _ refl refl
+each-among (timer n) = on-cond (λ x. Among (11 ∷ []) (inTimer x)) (isTimer (record { 0 = n })) _ _ refl refl
+each-among (read-item s) = on-cond (λ x. Among (1 ∷ []) (inReadItem x)) (isItem (itemOf s) s) _ _ refl refl
+each-among (read-item-at s a) = on-cond (λ x. Among (1 ∷ []) (inReadItem (placed a x))) (isItem (itemOf (drop a s)) (drop a s)) _ _ refl refl
+each-among (write-item i rest d) = on-cond (λ x. Among (1 ∷ []) (inWritten x)) (writable i rest d) _ _ refl refl
+each-among (read-profile s) = on-cond (λ x. Among (2 ∷ []) (inReadProfile x)) (isProfile (profileOf s) s) _ _ refl refl
+each-among (feed-chunk f c) = chunk-among (takeOf f c) f c
+each-among (open-call i rest s) = answer-among openNumbers (openOf i rest s .answer) (open-numbers i rest s)
+each-among (respond r i rest) = answer-among respondNumbers (respondOf r i rest .answer) (respond-numbers r i rest)
+each-among (step r i rest) = answer-among stepNumbers (stepOf r i rest .answer) (step-numbers r i rest)
+each-among (feed t item profile) = go (isSoundTable t) refl
+  where
+    go : (w : Bool) → isSoundTable t ≡ w → Among (numbers (feed t item profile)) (refusal (feed t item profile))
+    go true e = fed-among true t (record { item = item; profile = profile }) _ e refl
+    go false e = fed-among false t (record { item = item; profile = profile }) _ e refl
+each-among (feed-sound t h item profile) = fed-among true t (record { item = item; profile = profile }) _ h refl
+
+among : (ns : List ℕ) (x : Option ℕ) → Among ns x → (n : ℕ) → x ≡ some n → contains n ns ≡ true
+among ns none h n e = cc
+among ns (some m) h n e = let same : m ≡ n = cc in rw (← same) h
+
+demand1 : Demand1
+demand1 = record { numbered = λ e n. among (numbers e) (refusal e) (each-among e) n; unchanged = unchanged }
 
 -- ---- demand 3
 

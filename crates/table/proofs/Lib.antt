@@ -1,7 +1,6 @@
 pub mod Demands
 pub mod Cases
 pub mod Ours
-pub mod Numbers
 pub mod Independence
 pub mod Step
 pub mod Valid
@@ -17,4 +16,3 @@ pub mod Elem
 pub mod Joins
 pub mod ByValue
 pub mod Lent
-pub mod Blank

@@ -1,12 +1,14 @@
 -- The layer `call` and the entries of the table keep their promises, so demand 3 holds of them; and a sound table stays so.
 use Prim.Native.Nat.{ℕ}
-use mathlib.Core.Path.{_≡_, refl, ap, _∙_}
+use mathlib.Core.Path.{_≡_, refl, sym, ap, _∙_}
+use mathlib.Core.Logic.{_≢_}
 use mathlib.Core.Bool.{Bool, true, false, not, cond, _&&_, _||_, false≢true}
-use mathlib.Core.List.{List}
+use mathlib.Core.List.{List, [], _∷_}
 use mathlib.Core.Option.{Option, none, some}
+use native.Mathlib.Omega.{arith}
 use lib.Dec.{eqb}
 use lib.ListN.{replicate}
-use Rattle.forms.specs.Bytes.{same}
+use Rattle.forms.specs.Bytes.{all, contains, same}
 use Rattle.forms.specs.Item.{formOf, itemBytes, itemInRange, restOf, isItem, readItem}
 use Rattle.forms.specs.Profile.{profileOf, isProfile}
 use Rattle.forms.specs.declared.item.Body.{Body}
@@ -23,14 +25,15 @@ use Rattle.call.specs.Step.{isSetup, kindOf, respondOf}
 use Rattle.call.specs.Alone as alone
 use Rattle.call.specs.Alone.{Fed, aloneStep}
 use Rattle.call.proofs.InRange.{isLeftWell, respond-left, open-left}
-use Rattle.call.proofs.CallTheorems.{isAccepted, isOver}
+use Rattle.call.specs.Answers.{isAccepted}
+use Rattle.call.proofs.CallTheorems.{isOver}
+use Rattle.call.proofs.Numbers.{isOneOf, accepted-one, one-of-more, respondNumbers, respond-numbers}
 use Rattle.table.specs.Types.{Item, Record, Answer, Stepped, Entry}
 use Rattle.table.specs.Table.{goes, ends, unless, fresh, Done}
 use Rattle.table.specs.Entry.{blankEntry, ourSlots}
 use Rattle.table.specs.Feed.{itemIn, restIn, earlyOf, effectAs, effectOf, ourCall, isSoundTable, feedOf}
 use Rattle.table.specs.Independence.{Independence}
 use Rattle.table.proofs.Promises.{Kept, keep, setupAlone, otherAlone, serveAlone, aloneAs, onNext, Promises}
-use Rattle.table.proofs.Numbers.{isNumbered, numbered-not-3, accepted-numbered, respond-numbered}
 use Rattle.table.proofs.Independence.{independence, stays-sound, fresh-is-sound}
 
 -- ---- what is neither 1 nor 2: an item, and of a Setup its profile
@@ -122,35 +125,43 @@ kept-so r (Accepted o) next = go (o .over) (Accepted o)
     go false a = refl
 
 -- a call by itself answers as the parts do, and its refusals are numbered 1 to 14 but 3
+-- the numbers that a call by itself gives: neither 3 nor 6, which are the table's
+abbrev aloneNumbers : List ℕ
+aloneNumbers = 1 ∷ 2 ∷ 4 ∷ 5 ∷ 7 ∷ 8 ∷ 9 ∷ 10 ∷ 11 ∷ 12 ∷ 13 ∷ 14 ∷ []
+
+never : (n : ℕ) (a : Answer) → contains n aloneNumbers ≡ false → isOneOf aloneNumbers a ≡ true → a ≢ Refused n
+never n a h k e = false≢true (sym h ∙ sym (ap (isOneOf aloneNumbers) e) ∙ k)
+
 abbrev As : Kept ourCall → Kept ourCall → Type 0
-As d o = (d ≡ o) × (isNumbered (d .0) ≡ true)
+As d o = (d ≡ o) × (isOneOf aloneNumbers (d .0) ≡ true)
 
 module _ (x : Fed) where
   abbrev profileIs : Bool → Type 0
   profileIs b = isProfile (profileOf (x .profile)) (x .profile) ≡ b
 
   as-other : (v : Option Record) → As (alone.otherAlone v (itemIn x) (restIn x)) (otherAlone ourCall x v)
-  unfolding otherAlone
+  unfolding otherAlone all contains
   as-other none = (refl, refl)
-  as-other (some r) = let s = respondOf r (itemIn x) (restIn x) in (kept-so r (s .answer) (s .next), respond-numbered r (itemIn x) (restIn x))
+  as-other (some r) = let s = respondOf r (itemIn x) (restIn x) in (kept-so r (s .answer) (s .next), one-of-more respondNumbers aloneNumbers (s .answer) refl (respond-numbers r (itemIn x) (restIn x)))
 
   module _ (o : itemInRange (itemIn x) (restIn x) ≡ true) (h : isSetup (itemIn x) ≡ true) where
     abbrev opens : Stepped
     opens = openOf (itemIn x) (restIn x) (x .profile)
 
     as-setup : (v : Option Record) → profileIs true → As (alone.setupAlone v (itemIn x) (restIn x) (x .profile)) (setupAlone ourCall x v)
-    unfolding setupAlone
+    unfolding setupAlone contains
     as-setup none p =
         let q = setup-opens (itemIn x) (restIn x) (x .profile) o h p in
-        (ap (λ k. (opens .answer, k)) (opened-goes (opens .answer) (opens .next) q .1), accepted-numbered (opens .answer) (q .0))
+        (ap (λ k. (opens .answer, k)) (opened-goes (opens .answer) (opens .next) q .1), accepted-one aloneNumbers (opens .answer) (q .0))
     as-setup (some r) p = rw p (refl, refl)
 
     as-refused : (v : Option Record) → profileIs false → As (alone.setupAlone v (itemIn x) (restIn x) (x .profile)) (Refused 2, v)
-    as-refused none p = let e = setup-refused (itemIn x) (restIn x) (x .profile) o h p in (ap (λ a. (a, alone.remaining none a (opens .next))) e, ap isNumbered e)
+    unfolding contains
+    as-refused none p = let e = setup-refused (itemIn x) (restIn x) (x .profile) o h p in (ap (λ a. (a, alone.remaining none a (opens .next))) e, ap (isOneOf aloneNumbers) e)
     as-refused (some r) p = rw p (refl, refl)
 
   alone-as : (v : Option Record) → As (aloneStep v (x .item) (x .profile)) (aloneAs ourCall v x)
-  unfolding aloneStep readItem aloneAs earlyOf unless serveAlone
+  unfolding aloneStep readItem aloneAs earlyOf unless serveAlone contains
   alone-as v = go (isItem (itemIn x) (x .item)) (isSetup (itemIn x)) (isProfile (profileOf (x .profile)) (x .profile)) refl refl refl
     where
       go : (i s p : Bool) → isItem (itemIn x) (x .item) ≡ i → isSetup (itemIn x) ≡ s → profileIs p → As (aloneStep v (x .item) (x .profile)) (aloneAs ourCall v x)
@@ -172,7 +183,7 @@ unfolding blankEntry isBlank someArmed placesInRange
 blank-is-blank = refl
 
 promises : Promises ourCall ourSlots
-unfolding blankEntry
+unfolding blankEntry contains
 promises =
     record {
       owner-own = λ k r. refl;
@@ -182,8 +193,8 @@ promises =
       begin-range = begin-in-range;
       meet-range = λ r x e h o. left-in-range (respondOf r (itemIn x) (restIn x)) (itemIn x .time) (respond-left r (itemIn x) (restIn x) o (item-in-range x e));
       alone-is = λ v x. alone-as x v .0;
-      alone-never-3 = λ v x. numbered-not-3 _ (alone-as x v .1);
-      room-is-not-3 = numbered-not-3 (Refused 6) refl;
+      alone-never-3 = λ v x. never 3 _ refl (alone-as x v .1);
+      room-is-not-3 = λ e. absurd (let z : _≡_ {A = ℕ} 6 3 = cc in omega arith);
     }
 
 -- demand 3

@@ -12,11 +12,11 @@ use Rattle.forms.specs.Item.{callIn, itemOf, isItem, readItem}
 use Rattle.forms.specs.Profile.{profileOf, isProfile, readProfile}
 use Rattle.call.specs.declared.answers.Answer.the-variants.{Accepted, Refused}
 use Rattle.call.specs.Record.{blank}
-use Rattle.call.specs.Answers.{refused}
+use Rattle.call.specs.Answers.{isAccepted, refused}
 use Rattle.call.specs.Alone.{Fed}
 use Rattle.call.specs.Setup.{openOf}
 use Rattle.call.specs.Step.{isSetup, respondOf}
-use Rattle.call.proofs.CallTheorems.{isAccepted, isOver, Remains, respond-remains}
+use Rattle.call.proofs.CallTheorems.{isOver, Remains, respond-remains}
 use Rattle.table.specs.Types.{Answer, Record, Stepped, Entry, Spot}
 use Rattle.table.specs.declared.entry.Owner.the-variants as owner
 use Rattle.table.specs.declared.lookup.Spot.the-variants.{Nowhere, Free, Own}

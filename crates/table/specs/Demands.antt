@@ -1,12 +1,13 @@
 -- Start here. The three demands, each said of whatever keeps to `feed`'s contract; `demands` in proofs/Demands.antt proves them.
--- The words between quotes are the demands' own and document 01's. What they rest on: `forms` (the written forms), `call` (one call), and here Table, Entry, Feed, and of lists Runs and Independence.
-use Prim.Native.Nat.{ℕ, _^_, _≤_, _<_}
+-- The words between quotes are the demands' own and document 01's. What they rest on: `forms` (the written forms), `call` (one call), and here Table, Entry, Feed, EntryPoints, and of lists Runs and Independence.
+use Prim.Native.Nat.{ℕ, _^_, _<_}
 use mathlib.Core.Bool.{true, not, cond, _&&_}
 use mathlib.Core.List.{List, [], _∷_, map}
 use mathlib.Core.Option.{Option, none, some}
 use mathlib.Core.Path.{_≡_}
 use mathlib.Core.Logic.{_≢_}
 use lib.ListN.{getD, set, take, drop}
+use Rattle.forms.specs.Bytes.{contains}
 use Rattle.forms.specs.Item.{restAt, restOf, itemOf, isItem, readItem}
 use Rattle.forms.specs.Profile.{profileOf, isProfile}
 use Rattle.forms.specs.Write.{written, after}
@@ -18,12 +19,13 @@ use Rattle.call.specs.Answers.{Row, row}
 use Rattle.call.specs.Setup.{openOf}
 use Rattle.call.specs.Step.{isSetup, respondOf}
 use Rattle.call.specs.Alone.{Fed, aloneStep}
-use Rattle.call.proofs.Order.{Request, Disjoint, BothAccepted, inTurn}
+use Rattle.call.specs.Order.{Request, Disjoint, BothAccepted, inTurn}
 use Rattle.table.specs.Types.{Item, Record, Answer, Stepped, Entry}
 use Rattle.table.specs.Runs.{All, final, eachAlone}
 use Rattle.table.specs.Table.{isNone, find, isFree, owns, look, fresh, unless, ofCall}
 use Rattle.table.specs.Entry.{ownedBy, blankEntry, ourSlots}
 use Rattle.table.specs.Feed.{itemIn, restIn, ourCall, isSoundTable, feedOf}
+use Rattle.table.specs.EntryPoints.{EntryPoint, numbers, refusal}
 use Rattle.table.specs.Independence.{itemsOf, linesOf}
 
 -- ---- a turn of `feed`
@@ -42,10 +44,11 @@ Feeds f = (f .answer, f .after) ≡ feedOf (f .before) (f .item) (f .profile)
 
 -- ---- Demand 1, anything may come in
 
--- "one of document 01's numbered refusals"; "A refusal carries no reports" (it is a number alone) "and changes no byte of the table"
-pub record Demand1 (f : Turn) : Type 0 where
-  pub numbered : (n : ℕ) → f .answer ≡ Refused n → (1 ≤ n) × (n ≤ 14)
-  pub unchanged : (n : ℕ) → f .answer ≡ Refused n → f .after ≡ f .before
+pub record Demand1 : Type 0 where
+  -- "Every entry point answers, or gives one of document 01's numbered refusals.": those that EntryPoints lists for it
+  pub numbered : (e : EntryPoint) (n : ℕ) → refusal e ≡ some n → contains n (numbers e) ≡ true
+  -- "A refusal carries no reports" (it is a number alone) "and changes no byte of the table."
+  pub unchanged : (f : Turn) → Feeds f → (n : ℕ) → f .answer ≡ Refused n → f .after ≡ f .before
 
 -- ---- Demand 2, the right answer
 
@@ -174,7 +177,7 @@ pub record Demand3 : Type 0 where
 -- ---- the three
 
 pub record Demands : Type 0 where
-  pub anything : (f : Turn) → Feeds f → Demand1 f
+  pub anything : Demand1
   pub right : (f : Turn) → Feeds f → Demand2 f
   pub written : WrittenForms
   pub apart : Demand3

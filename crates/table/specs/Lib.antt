@@ -4,6 +4,7 @@ pub mod Runs
 pub mod Table
 pub mod Entry
 pub mod Feed
+pub mod EntryPoints
 pub mod Independence
 pub mod Check
 pub mod Lookup

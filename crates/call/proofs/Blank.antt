@@ -7,29 +7,20 @@ use lib.Dec.{eqb}
 use lib.ListN.{length, replicate}
 use borrow.Author.Tests.{eqb-true}
 use Rattle.forms.specs.Bytes.{pad}
-use Rattle.forms.specs.declared.profile.Handling.{Handling}
 use Rattle.forms.specs.declared.profile.Handling.the-variants as handling
 use Rattle.forms.proofs.ByteLaws.{and-left, and-right}
-use Rattle.call.specs.declared.record.Stage.{Stage}
+use Rattle.call.specs.Types.{Handling, Stage, Presence, Charge, LegState, Hold, Mode, Arming, Number, Record}
 use Rattle.call.specs.declared.record.Stage.the-variants as stage
-use Rattle.call.specs.declared.record.Presence.{Presence}
 use Rattle.call.specs.declared.record.Presence.the-variants as presence
-use Rattle.call.specs.declared.record.Charge.{Charge}
 use Rattle.call.specs.declared.record.Charge.the-variants as charge
-use Rattle.call.specs.declared.record.LegState.{LegState}
-use Rattle.call.specs.declared.record.Hold.{Hold}
 use Rattle.call.specs.declared.record.Hold.the-variants as hold
-use Rattle.call.specs.declared.record.Mode.{Mode}
 use Rattle.call.specs.declared.record.Mode.the-variants as mode
-use Rattle.call.specs.declared.record.Arming.{Arming}
-use Rattle.call.specs.declared.record.Number.{Number}
 use Rattle.call.specs.Points.{isAnalysing, unarmed}
 use Rattle.call.specs.Charging.{leg, isPresent, isPending}
 use Rattle.call.specs.Relationship.{isMode, someArmed, isHeld}
 use Rattle.call.specs.Operations.{isRelease}
 use Rattle.call.specs.Record.{blank}
 use Rattle.call.specs.Range.{placesInRange, isUnused, isUnarmed, isNoNumber, isBlank}
-use Rattle.table.specs.Types.{Record}
 
 -- ---- field by field
 
