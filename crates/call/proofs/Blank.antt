@@ -1,4 +1,4 @@
--- "A free record is blank: every field zero or none.": the check that says so leaves no field out. (The code's armings are 10, its digit places 15.)
+-- "A free record is blank: every field zero or none.": exactly the blank record passes the check that says so. (The code's armings are 10, its digit places 15.)
 use Prim.Native.Nat.{ℕ}
 use mathlib.Core.Path.{_≡_, refl, ap, _∙_}
 use mathlib.Core.Bool.{Bool, true, false, not, _&&_, _||_, false≢true}
@@ -107,6 +107,10 @@ made-blank : (s : Stage) (l m : LegState) (h : Hold) (t : ℕ) (a : List Arming)
     → n ≡ record { nature = 0; count = 0; digits = pad 15 [] }
     → _≡_ {A = Record} (record { stage = s; leg1 = l; leg2 = m; hold = h; last = record { 0 = t }; armings = a; kept = record { 0 = k }; timer = record { 0 = d }; handling = g; number = n }) blank
 made-blank s l m h t a k d g n e1 e2 e3 e4 e5 e6 e7 e8 e9 e10 = rw (e1, e2, e3, e4, e5, e6, e7, e8, e9, e10)
+
+pub blank-passes : isBlank blank ≡ true
+unfolding isBlank someArmed placesInRange
+blank-passes = refl
 
 pub blank-exactly : (r : Record) → length (r .armings) ≡ 10 → length (r .number .digits) ≡ 15 → isBlank r ≡ true → r ≡ blank
 unfolding isBlank

@@ -1,5 +1,5 @@
 -- Laws of one call, for a reader: what having no relationship means, charges and their clocks, what a lost leg disarms, what an Answer leaves armed, the order of the refusals, the kept timer.
-use Prim.Native.Nat.{ℕ, zero, suc, _≤_}
+use Prim.Native.Nat.{ℕ, zero, suc, _-_, _≤_}
 use mathlib.Core.Path.{_≡_, refl, sym, ap, _∙_}
 use mathlib.Core.Logic.{_↔_}
 use mathlib.Core.Bool.{Bool, true, false, not, cond, Bool·beq, _&&_, _||_, and-true, and-false, true≢false, false≢true}
@@ -12,12 +12,13 @@ use borrow.Author.Tests.{eqb-true, eqb-false}
 use Rattle.forms.specs.Fields.{legNumber}
 use Rattle.forms.specs.Item.{itemInRange}
 use Rattle.forms.proofs.ByteLaws.{and-left, and-right}
-use Rattle.call.specs.Types.{Item, Tenths, Leg, Role, Stage, Mode, Charge, LegState, Arming, Record, Relationship, ChargeReport, Answer, Stepped, Check, Kind}
+use Rattle.call.specs.Types.{Item, Tenths, Leg, Role, Stage, Mode, Charge, LegState, Arming, Hold, Record, Relationship, ChargeReport, Answer, Stepped, Check, Kind}
 use Rattle.forms.specs.declared.item.Leg.the-variants.{One, Two}
 use Rattle.forms.specs.declared.item.Body.the-variants as body
 use Rattle.call.specs.declared.points.Role.the-variants as role
 use Rattle.call.specs.declared.record.Stage.the-variants.{Active}
 use Rattle.call.specs.declared.record.Mode.the-variants as mode
+use Rattle.call.specs.declared.record.Hold.the-variants as hold
 use Rattle.call.specs.declared.record.Charge.the-variants as charge
 use Rattle.call.specs.declared.answers.Relationship.the-variants as relationship
 use Rattle.call.specs.declared.answers.ChargeReport.the-variants as report
@@ -95,6 +96,10 @@ pub elapsed-within : (t : Tenths) (c : Charge) → elapsedIn (reportOf t c) ≤ 
 elapsed-within t charge.None = omega arith
 elapsed-within t (charge.Waiting period) = omega arith
 elapsed-within t (charge.Running period start) = omega arith
+
+-- nor the time since its start
+pub elapsed-since : (t period start : Tenths) → elapsedIn (reportOf t (charge.Running period start)) ≤ t .0 - start .0
+elapsed-since t period start = omega arith
 
 -- "0 if not started"
 pub elapsed-unstarted : (t : Tenths) (c : Charge) → isStarted c ≡ false → elapsedIn (reportOf t c) ≡ 0
@@ -289,6 +294,12 @@ pub held-exactly : (p : Role) (m : Mode) → isHeld (holdAfter p m) ≡ isMode m
 held-exactly p mode.None = refl
 held-exactly p mode.Interrupted = refl
 held-exactly p mode.Notify = refl
+
+-- a hold at 2 is a hold
+pub trigger-held : (h : Hold) → isTrigger h ≡ true → isHeld h ≡ true
+trigger-held hold.None e = e
+trigger-held hold.Trigger e = refl
+trigger-held (hold.At p) e = refl
 
 -- "If a leg became absent and the mode was not 0, the call is over"
 pub ends-exactly : (p : Role) (m : Mode) → endsCall p m ≡ (losesLeg p && not (isMode m mode.Interrupted))

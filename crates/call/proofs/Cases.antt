@@ -188,6 +188,11 @@ runs =
     ++ along held
     (arm 1000 (entry 19 2 1 0 ∷ []) ▸ at2 ∷ go ▸ routes R.Monitor 2200
     ∷ item 1100 B.Seized ▸ says R.None H.None (Notification P.Seized) ∷ item 1100 B.ActivityTest ▸ Refused 8 ∷ [])
+    -- nor does the kept timer hold it, which outlives the arming of 6
+    ++ along held
+    (arm 1000 (entry 19 2 0 0 ∷ []) ▸ at2 ∷ go ▸ routes R.Control 2200 ∷ item 1100 B.Seized ▸ interrupts P.Seized
+    ∷ arm 1100 (entry 6 2 1 30 ∷ []) ▸ says R.Control (H.At P.Seized) None ∷ arm 1100 (entry 6 2 2 0 ∷ []) ▸ says R.Control (H.At P.Seized) None
+    ∷ item 1100 B.Continue ▸ says R.None H.None None ∷ [])
     -- slip, a TNRy reused on the follow-on call
     ++ along held
     (arm 1000 (entry 6 2 0 30 ∷ []) ▸ at2 ∷ connect 1000 ▸ routes R.Control 1300

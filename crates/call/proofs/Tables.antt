@@ -6,13 +6,15 @@ use mathlib.Core.Bool.{Bool, true, false, cond}
 use mathlib.Core.List.{List, [], _∷_, _++_, map, flatten}
 use mathlib.Core.Option.{Option, none, some}
 use lib.ListN.{length, getD, set, replicate}
-use Rattle.forms.specs.Bytes.{pad}
+use Rattle.forms.specs.Bytes.{pad, all, contains, leads, same}
 use Rattle.forms.specs.Fields.{legNumber}
-use Rattle.forms.specs.Item.{entryBytes, entryOf}
+use Rattle.forms.specs.Item.{itemInRange, entryBytes, entryOf}
+use Rattle.forms.specs.Profile.{Profile, fieldsOf, profileBytes, profileInRange, numbersAt, numbersEnd, viewAt, profileOf, isProfile, someMatches}
+use Rattle.forms.specs.declared.profile.Criterion.the-variants as A
 use Rattle.forms.specs.declared.item.Leg.the-variants.{One, Two}
 use Rattle.forms.specs.declared.item.Body.the-variants as B
 use Rattle.forms.specs.declared.profile.Handling.the-variants as D
-use Rattle.call.specs.Types.{Body, Item, Handling, Leg, Role, Named, Stage, Presence, Mode, Arming, Hold, Charge, LegState, Number, Record, Report, ChargeReport, Reports, Deadline, Outcome, Answer, Stepped}
+use Rattle.call.specs.Types.{Body, Criterion, Item, Handling, Leg, Role, Named, Stage, Presence, Mode, Arming, Hold, Charge, LegState, Number, Record, Report, ChargeReport, Reports, Deadline, Outcome, Answer, Stepped}
 use Rattle.call.specs.declared.points.Role.the-variants as P
 use Rattle.call.specs.declared.points.Named.the-variants.{Unknown, Known}
 use Rattle.call.specs.declared.record.Stage.the-variants.{Analysing, Alerting, Active}
@@ -31,7 +33,9 @@ use Rattle.call.specs.Arming.{entriesOf, areGood, arePossible, armedWith
 use Rattle.call.specs.Events.{met}
 use Rattle.call.specs.Operations.{continued, aborted}
 use Rattle.call.specs.Range.{placesInRange, numberInRange, recordInRange}
-use Rattle.call.specs.Step.{respondOf}
+use Rattle.call.specs.Trigger.{triggers}
+use Rattle.call.specs.Step.{respondOf, stepOf}
+use Rattle.call.specs.Setup.{openOf}
 
 -- ---- pairs of point and leg, as the listing prints them
 
@@ -380,7 +384,7 @@ pub named-twice :
 unfolding flatten entryOf entriesOf areGood arePossible armedWith someArmed respondOf
 named-twice = refl
 
--- ---- Numbered refusals: every item in eight calls
+-- ---- Numbered refusals: every item in eleven calls
 
 abbrev asks : ℕ → Record → List ℕ
 asks t r =
@@ -413,8 +417,11 @@ pub refusals :
     ≡ 5 ∷ 9 ∷ 9 ∷ 9 ∷ 9 ∷ 9 ∷ 9 ∷ 9 ∷ 0 ∷ 9 ∷ 12 ∷ 12 ∷ 0 ∷ 0 ∷ 0 ∷ 0 ∷ 0 ∷ 12 ∷ 0 ∷ 0 ∷ [])
     × (asks 1000 (with Analysing gone (present None) (H.At P.Abandon) 1000 (armed M.None) 0 (to (4 ∷ 9 ∷ [])))
     ≡ 5 ∷ 9 ∷ 9 ∷ 9 ∷ 9 ∷ 9 ∷ 9 ∷ 9 ∷ 12 ∷ 9 ∷ 12 ∷ 12 ∷ 12 ∷ 0 ∷ 12 ∷ 0 ∷ 12 ∷ 12 ∷ 0 ∷ 0 ∷ [])
+    -- held at 9 of leg 1, both legs absent
+    × (asks 1000 (with Active gone gone (H.At P.Disconnect1) 1000 (armed M.None) 0 (to (4 ∷ 9 ∷ [])))
+    ≡ 5 ∷ 9 ∷ 9 ∷ 9 ∷ 9 ∷ 9 ∷ 9 ∷ 9 ∷ 12 ∷ 9 ∷ 12 ∷ 12 ∷ 12 ∷ 0 ∷ 12 ∷ 0 ∷ 12 ∷ 12 ∷ 0 ∷ 0 ∷ [])
 unfolding entryOf entriesOf areGood arePossible armedWith someArmed met continued aborted respondOf
-refusals = (refl, refl, refl, refl, refl, refl, refl, refl, refl, refl)
+refusals = (refl, refl, refl, refl, refl, refl, refl, refl, refl, refl, refl)
 
 -- ---- what the operations and Period over leave, field by field: the deadline and the next record
 
@@ -446,6 +453,7 @@ pub operations-leave :
     ∷ after 1010 held (B.RequestReport 1) (entry (5 ╱ 2) 2 0)
     -- "else resumes"; "deadline = time + kept timer × 10, used once"
     ∷ after 1010 held B.Continue []
+    ∷ after 1010 (at Active (H.At P.Answer) armings) B.Continue []
     -- "leg 2 is present again, stage analysing, number replaced, the hold ends"
     ∷ after 1010 held (B.Connect 3 1) (6 ∷ [])
     ∷ after 1010 left (B.Connect 3 1) (6 ∷ [])
@@ -466,6 +474,7 @@ pub operations-leave :
     ≡ (none, with Analysing (present (waits 600)) (present (waits 700)) H.Trigger 1010 (set (set armings 6 (record { mode = M.Notify })) 2 (record { mode = M.Interrupted })) 40 (to (4 ∷ 9 ∷ [])))
     ∷ (none, with Analysing (present (waits 600)) (present (waits 700)) H.Trigger 1010 (only 6 M.Interrupted) 30 (to (4 ∷ 9 ∷ [])))
     ∷ (some 1310, with Analysing (present (waits 600)) (present (waits 700)) H.None 1010 armings 0 (to (4 ∷ 9 ∷ [])))
+    ∷ (none, with Active (present None) (present None) H.None 1010 armings 0 (to (4 ∷ 9 ∷ [])))
     ∷ (some 1310, with Analysing (present (waits 600)) (present (waits 700)) H.None 1010 armings 0 (record { nature = 3; count = 1; digits = pad 15 (6 ∷ []) }))
     ∷ (some 1310, with Analysing (present (runs 600 900)) (present None) H.None 1010 armings 0 (record { nature = 3; count = 1; digits = pad 15 (6 ∷ []) }))
     ∷ (none, blank)
@@ -516,3 +525,93 @@ unfit =
 pub in-range : (map recordInRange fits ≡ map (λ (r : Record). true) fits) × (map recordInRange unfit ≡ map (λ (r : Record). false) unfit)
 unfolding placesInRange numberInRange recordInRange
 in-range = (refl, refl)
+
+-- ---- Triggering: stored are 49, of nature 4, and the length 2; services 8 and 9
+
+abbrev profile : Criterion → List ℕ → Criterion → Profile
+profile sense services forwarding = record {
+  handling = D.Continue;
+  timer = record { 0 = 120 };
+  sense = sense;
+  numbers = record { nature = 4; digits = 4 ∷ 9 ∷ [] } ∷ [];
+  lengths = 2 ∷ [];
+  services = services;
+  forwarding = forwarding;
+}
+
+-- both match; the number alone; the length alone, also where natures differ; neither
+abbrev dialled : List (ℕ × List ℕ)
+dialled = (4, 4 ∷ 9 ∷ []) ∷ (4, 4 ∷ 9 ∷ 5 ∷ []) ∷ (4, 1 ∷ 2 ∷ []) ∷ (3, 4 ∷ 9 ∷ []) ∷ (3, 4 ∷ 9 ∷ 5 ∷ []) ∷ []
+
+abbrev senses : Criterion → List Bool
+senses sense = map (λ (d : ℕ × List ℕ). triggers (profile sense [] A.Absent) (d .0) 8 false (d .1)) dialled
+
+abbrev served : List ℕ → List Bool
+served services = map (λ (n : ℕ). triggers (profile A.Absent services A.Absent) 4 n false (4 ∷ [])) (8 ∷ 9 ∷ 7 ∷ [])
+
+abbrev forwards : Criterion → List Bool
+forwards c = map (λ (b : Bool). triggers (profile A.Absent [] c) 4 8 b (4 ∷ [])) (true ∷ false ∷ [])
+
+-- "Enabling: some number or some length matches. Inhibiting: no number and no length matches. Service: list empty, or the call's service is in it. Forwarding: enabling wants a forwarded call, inhibiting one that isn't."
+-- "All present criteria must hold.": each of the three fails alone
+pub triggering :
+    senses A.Absent ∷ senses A.Enabling ∷ senses A.Inhibiting ∷ served [] ∷ served (8 ∷ 9 ∷ []) ∷ forwards A.Absent ∷ forwards A.Enabling ∷ forwards A.Inhibiting
+    ∷ map (λ (x : Criterion × ℕ × Bool). triggers (profile (x .0) (8 ∷ []) A.Enabling) 4 (x .1) (x .2) (4 ∷ 9 ∷ [])) ((A.Enabling, 8, true) ∷ (A.Inhibiting, 8, true) ∷ (A.Enabling, 7, true) ∷ (A.Enabling, 8, false) ∷ [])
+    ∷ []
+    ≡ replicate 5 true ∷ (true ∷ true ∷ true ∷ true ∷ false ∷ []) ∷ (false ∷ false ∷ false ∷ false ∷ true ∷ []) ∷ replicate 3 true ∷ (true ∷ true ∷ false ∷ []) ∷ replicate 2 true ∷ (true ∷ false ∷ []) ∷ (false ∷ true ∷ [])
+    ∷ (true ∷ false ∷ false ∷ false ∷ [])
+    ∷ []
+unfolding contains leads someMatches triggers
+triggering = refl
+
+-- ---- where no call is open
+
+abbrev opened : Body → List ℕ → List ℕ → Stepped
+opened b rest s = openOf (record { call = 7; time = record { 0 = 1000 }; body = b }) rest s
+
+-- default release, 30 seconds; and the same for service 8 alone
+abbrev any : List ℕ
+any = 0 ∷ 10 ∷ 1 ∷ 1 ∷ 30 ∷ 0 ∷ 0 ∷ 0 ∷ 0 ∷ 0 ∷ []
+
+abbrev only8 : List ℕ
+only8 = 0 ∷ 11 ∷ 1 ∷ 1 ∷ 30 ∷ 0 ∷ 0 ∷ 0 ∷ 1 ∷ 8 ∷ 0 ∷ []
+
+abbrev begins : Hold → Record
+begins hold = record {
+  stage = Analysing;
+  leg1 = present None;
+  leg2 = present None;
+  hold = hold;
+  last = record { 0 = 1000 };
+  armings = armed M.None;
+  kept = record { 0 = 0 };
+  timer = record { 0 = 30 };
+  handling = D.Release;
+  number = to (4 ∷ 9 ∷ []);
+}
+
+-- "stage analysing, both legs, held as Triggering says, last time the item's, nothing armed, no charge, no kept timer, the profile's defaults, the Setup's number"; "the call is held at point 2 and an interrupting report for 2, leg 1, goes out"
+abbrev setup : List ℕ → Said × Option ℕ × Record
+setup s = let q = opened (B.Setup 4 0 false 2) (4 ∷ 9 ∷ []) s in (said (q .answer), deadlineIn (q .answer), q .next)
+
+pub setups : map setup (any ∷ only8 ∷ []) ≡ (interrupts (2 ╱ 1), none, begins H.Trigger) ∷ (silent, some 1300, begins H.None) ∷ []
+unfolding all contains same itemInRange fieldsOf profileBytes profileInRange numbersAt numbersEnd viewAt profileOf isProfile someMatches triggers someArmed openOf
+setups = refl
+
+-- "call not open (all but Setup)"; "item malformed" and "profile malformed" of a Setup
+pub not-open :
+    map (λ (b : Body). refusal (opened b [] any .answer)) (events ++ (B.PeriodOver One ∷ B.Continue ∷ B.Release ∷ B.ApplyCharging One (record { 0 = 600 }) ∷ B.ActivityTest ∷ B.Abort ∷ []))
+    ++ (refusal (opened (B.RequestReport 1) (entry (9 ╱ 2) 1 0) any .answer) ∷ refusal (opened (B.Connect 4 1) (4 ∷ []) any .answer)
+    ∷ refusal (opened (B.Setup 128 0 false 1) (4 ∷ []) [] .answer) ∷ refusal (opened (B.Setup 4 0 false 1) (4 ∷ []) [] .answer)
+    ∷ [])
+    ≡ replicate 17 4 ++ (1 ∷ 2 ∷ [])
+unfolding all contains same itemInRange fieldsOf profileBytes profileInRange numbersAt numbersEnd viewAt profileOf isProfile openOf
+not-open = refl
+
+-- any item for any record: 1 before 3, 3 before 5 and 7
+pub stepped :
+    map (λ (x : Record × ℕ × Body). refusal (stepOf (x .0) (record { call = 7; time = record { 0 = x .1 }; body = x .2 }) [] .answer))
+    ((timed 9, 1000, B.Busy 128) ∷ (timed 9, 999, B.Busy 17) ∷ (timed 10, 999, B.Busy 17) ∷ (timed 10, 281474976710656, B.Answer) ∷ (timed 10, 1000, B.Busy 17) ∷ (timed 10, 1000, B.MidCall 1) ∷ [])
+    ≡ 1 ∷ 3 ∷ 7 ∷ 1 ∷ 12 ∷ 0 ∷ []
+unfolding all placesInRange numberInRange recordInRange itemInRange someArmed met respondOf stepOf
+stepped = refl
