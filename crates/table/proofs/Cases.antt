@@ -2,14 +2,14 @@
 -- The cases of `forms` and of `call` are taken up, those of `call` on a fresh table; the listing example, slots and damaged tables stand beside them.
 use Prim.Native.Nat.{ℕ, zero, suc}
 use mathlib.Core.Path.{_≡_, refl}
-use mathlib.Core.Bool.{false}
+use mathlib.Core.Bool.{Bool, true, false}
 use mathlib.Core.List.{List, [], _∷_, _++_, map, flatten}
 use mathlib.Core.Option.{Option, none, some}
 use lib.ListN.{getD, set, take, drop}
 use Rattle.forms.specs.Bytes as bytes
 use Rattle.forms.specs.Bytes.{contains, leads, same}
-use Rattle.forms.specs.Item.{itemBytes, itemInRange, restAt, bodyFrom, bodyOf, itemOf, isItem, readItem, entryOf}
-use Rattle.forms.specs.Profile.{fieldsOf, profileBytes, profileInRange, numbersAt, numbersEnd, viewAt, profileOf, isProfile, someMatches}
+use Rattle.forms.specs.Item.{callIn, itemBytes, itemInRange, restAt, bodyFrom, bodyOf, itemOf, isItem, readItem, entryOf}
+use Rattle.forms.specs.Profile.{fieldsOf, profileBytes, profileInRange, numbersAt, numbersEnd, viewAt, profileOf, isProfile, readProfile, someMatches}
 use Rattle.forms.specs.declared.item.Body.{Body}
 use Rattle.forms.specs.declared.item.Body.the-variants as body
 use Rattle.forms.proofs.Cases as forms
@@ -25,14 +25,21 @@ use Rattle.call.specs.Operations.{continued, aborted}
 use Rattle.call.specs.Range.{placesInRange, numberInRange, recordInRange, isBlank}
 use Rattle.call.specs.Step.{respondOf}
 use Rattle.call.specs.Setup.{openOf}
-use Rattle.call.specs.Alone.{Fed}
+use Rattle.call.specs.Alone.{Fed, aloneStep}
 use Rattle.call.proofs.Cases as call
 use Rattle.table.specs.declared.entry.Owner.the-variants.{Free}
-use Rattle.table.specs.Types.{ReadItem, Record, Answer, Entry}
-use Rattle.table.specs.Runs.{log, final}
-use Rattle.table.specs.Table.{next, find, all, fresh, once, isSound, unless, store, place, setupAt, otherAt, serve, damage, tableStep}
+use Rattle.table.specs.declared.lookup.Spot.the-variants as spot
+use Rattle.table.specs.Types.{ReadItem, Record, Answer, Entry, Spot}
+use Rattle.table.specs.Runs.{consIf, only, log, final, eachAlone}
+use Rattle.table.specs.Table.{ofCall, next, find, all, first, look, fresh, once, isSound, unless, store, place, setupAt, otherAt, serve, damage, tableStep}
 use Rattle.table.specs.Entry.{ownerOf, ownedBy, blankEntry, ourSlots}
-use Rattle.table.specs.Feed.{earlyOf, feedStep}
+use Rattle.table.specs.Feed.{earlyOf, ourCall, feedStep}
+use Rattle.table.specs.Independence.{itemsOf, linesOf}
+use Rattle.table.specs.Check.{calls, among, isOnce}
+use Rattle.table.specs.Lookup.{locateOf, placeOf}
+use Rattle.table.specs.Serve.{actedOf, entryAfter, damagedOf}
+use Rattle.table.specs.Demands.{byItself}
+use Rattle.table.proofs.LineCases.{triggered, ended}
 
 -- ---- what a case is
 
@@ -98,12 +105,16 @@ setup k = itemOfCall k (body.Setup 4 0 false 1) (4 ∷ [])
 abbrev release : ℕ → Fed
 release k = itemOfCall k body.Release []
 
--- no item; a Setup with no profile
+-- an item with no profile beside it, which is malformed if it is a Setup
+abbrev bare : Fed → Fed
+bare x = record { item = x .item; profile = [] }
+
+-- no item; a Setup and one byte more, with no profile either
 abbrev malformed : Fed
 malformed = record { item = []; profile = plain }
 
-abbrev misprofiled : Fed
-misprofiled = record { item = setup 9 .item; profile = [] }
+abbrev tooLong : Fed
+tooLong = record { item = setup 9 .item ++ (0 ∷ []); profile = [] }
 
 -- Setups of the calls n, …, 1
 abbrev setups : ℕ → List Fed
@@ -148,17 +159,96 @@ shown =
     (map (λ (c : call.Case). answers (fresh ourSlots) (c .before) ((c .last, c .answer) ∷ [])) call.runs)
     -- the listing as one run: its six answers
     ++ named (Listing ∷ []) (answers (fresh ourSlots) [] (map (λ (c : call.Case). (c .last, c .answer)) (take 6 call.runs)) ∷ [])
-    -- P8 with 64 open: a new Setup is 6, one for an open call 5
-    ++ named (P8 ∷ []) (answers (fresh ourSlots) (setups 64) ((setup 65, Refused 6) ∷ (setup 64, Refused 5) ∷ (setup 1, Refused 5) ∷ []) ∷ [])
+    -- P8 with 64 open: a new Setup is 6, one for an open call 5; 2 comes before both
+    ++ named (P8 ∷ []) (answers (fresh ourSlots) (setups 64) ((bare (setup 65), Refused 2) ∷ (bare (setup 1), Refused 2) ∷ (setup 65, Refused 6) ∷ (setup 64, Refused 5) ∷ (setup 1, Refused 5) ∷ []) ∷ [])
     -- "Setup takes the lowest free slot. Freed slots are used again."
     ++ named (Slots ∷ Slots ∷ [])
     (owners (setup 7 ∷ setup 8 ∷ setup 9 ∷ release 9 ∷ release 7 ∷ setup 10 ∷ []) (some 10 ∷ some 8 ∷ none ∷ none ∷ [])
     ∷ owners (setups 64 ++ (release 62 ∷ setup 65 ∷ [])) (some 64 ∷ some 63 ∷ some 65 ∷ some 61 ∷ [])
     ∷ [])
-    -- refusal 3 comes after 1 and 2, and before 4 and 5
-    ++ map (λ (t : List Entry). record { edge = Damage; shown = answers t [] ((malformed, Refused 1) ∷ (misprofiled, Refused 2) ∷ (release 9, Refused 3) ∷ (setup 7, Refused 3) ∷ []) }) damaged
-    ++ map (λ (t : List Entry). record { edge = Damage; shown = answers t [] ((release 9, Refused 4) ∷ (setup 7, Refused 5) ∷ []) }) sound
+    -- refusal 3 comes after 1 and 2, and before 4 and 5; only a Setup's profile counts
+    ++ map (λ (t : List Entry). record { edge = Damage; shown = answers t [] ((malformed, Refused 1) ∷ (tooLong, Refused 1) ∷ (bare (setup 9), Refused 2) ∷ (bare (release 9), Refused 3) ∷ (setup 7, Refused 3) ∷ []) }) damaged
+    ++ map (λ (t : List Entry). record { edge = Damage; shown = answers t [] ((tooLong, Refused 1) ∷ (bare (setup 7), Refused 2) ∷ (bare (release 9), Refused 4) ∷ (setup 7, Refused 5) ∷ []) }) sound
 
 pub cases : map (λ (c : Case). computed (c .shown)) shown ≡ map (λ (c : Case). wanted (c .shown)) shown
 unfolding flatten bytes.all contains leads same itemBytes itemInRange restAt bodyFrom bodyOf itemOf isItem readItem entryOf fieldsOf profileBytes profileInRange numbersAt numbersEnd viewAt profileOf isProfile someMatches triggers someArmed entriesOf areGood arePossible armedWith met continued aborted respondOf openOf placesInRange numberInRange recordInRange isBlank log final next find all fresh once isSound unless store place setupAt otherAt serve damage tableStep blankEntry earlyOf
 cases = refl
+
+-- ---- two calls by turns, one closed and opened again, and a third that is not open
+
+abbrev turns : List (Fed × Answer)
+turns =
+    (setup 7, triggered) ∷ (setup 8, triggered) ∷ (release 7, ended) ∷ (release 7, Refused 4) ∷ (setup 8, Refused 5) ∷ (release 9, Refused 4) ∷ (setup 7, triggered)
+    ∷ (bare (setup 8), Refused 2) ∷ (release 8, ended) ∷ []
+
+abbrev items : List Fed
+items = map (λ (e : Fed × Answer). e .0) turns
+
+abbrev answersIn : List (Fed × Answer) → List Answer
+answersIn = map (λ (e : Fed × Answer). e .1)
+
+abbrev ownersIn : List Entry → List (Option ℕ)
+ownersIn t = map (λ (e : Entry). ownerOf (e .owner)) (take 4 t)
+
+-- an item on a sound table as the code takes it, by the definitions of its parts: the spot, what is made of its entry, and the entry stored again
+abbrev stepAt : List Entry → Fed → Spot → Answer × List Entry
+stepAt t x s =
+    let e = getD t (placeOf s) blankEntry in
+    let a = actedOf s (e .body) (x .item) (x .profile) in
+    (a .answer, set t (placeOf s) (entryAfter e (callIn (x .item)) a))
+
+abbrev codeStep : List Entry → Fed → Answer × List Entry
+codeStep t x = stepAt t x (locateOf (callIn (x .item)) t)
+
+-- the answers on the table, of each call by itself, and of the code's parts
+pub by-turns : answersIn (log feedStep (fresh ourSlots) items) ∷ answersIn (eachAlone byItself (ofCall ourCall) (ourCall .call) none [] items) ∷ answersIn (log codeStep (fresh ourSlots) items) ∷ []
+    ≡ answersIn turns ∷ answersIn turns ∷ answersIn turns ∷ []
+unfolding flatten bytes.all contains leads same itemBytes itemInRange restAt bodyFrom bodyOf itemOf isItem readItem entryOf fieldsOf profileBytes profileInRange numbersAt numbersEnd viewAt profileOf isProfile someMatches triggers someArmed entriesOf areGood arePossible armedWith met continued aborted respondOf openOf placesInRange numberInRange recordInRange isBlank log final next find all fresh once isSound unless store place setupAt otherAt serve damage tableStep blankEntry earlyOf eachAlone only consIf aloneStep actedOf
+by-turns = refl
+
+-- what they leave: call 7 in slot 0
+pub left-by-turns : map ownersIn (final feedStep (fresh ourSlots) items ∷ final codeStep (fresh ourSlots) items ∷ []) ≡ map (λ (n : ℕ). some 7 ∷ none ∷ none ∷ none ∷ []) (1 ∷ 2 ∷ [])
+unfolding flatten bytes.all contains leads same itemBytes itemInRange restAt bodyFrom bodyOf itemOf isItem readItem entryOf fieldsOf profileBytes profileInRange numbersAt numbersEnd viewAt profileOf isProfile someMatches triggers someArmed entriesOf areGood arePossible armedWith met continued aborted respondOf openOf placesInRange numberInRange recordInRange isBlank log final next find all fresh once isSound unless store place setupAt otherAt serve damage tableStep blankEntry earlyOf actedOf
+left-by-turns = refl
+
+-- ---- of each call: its items, their answers, and its record in a table (by its kept timer)
+
+abbrev two : List Entry
+two = set open7 1 (ownedBy 8 (keeps 30))
+
+abbrev keptIn : Option Record → Option ℕ
+keptIn none = none
+keptIn (some r) = some (r .kept .0)
+
+abbrev its : ℕ → List Fed × List Answer × Option ℕ
+its k = (itemsOf ourCall k items, answersIn (linesOf ourCall k turns), keptIn (look ourSlots k two))
+
+pub of-each-call : map its (7 ∷ 8 ∷ 9 ∷ [])
+    ≡ (setup 7 ∷ release 7 ∷ release 7 ∷ setup 7 ∷ [], triggered ∷ ended ∷ Refused 4 ∷ triggered ∷ [], some 0)
+    ∷ (setup 8 ∷ setup 8 ∷ bare (setup 8) ∷ release 8 ∷ [], triggered ∷ Refused 5 ∷ Refused 2 ∷ ended ∷ [], some 30)
+    ∷ (release 9 ∷ [], Refused 4 ∷ [], none)
+    ∷ []
+unfolding flatten bytes.all contains leads same itemBytes itemInRange restAt bodyFrom bodyOf itemOf isItem readItem entryOf fieldsOf profileBytes profileInRange numbersAt numbersEnd viewAt profileOf isProfile someMatches triggers someArmed entriesOf areGood arePossible armedWith met continued aborted respondOf openOf placesInRange numberInRange recordInRange isBlank log final next find all fresh once isSound unless store place setupAt otherAt serve damage tableStep blankEntry earlyOf only consIf look first
+of-each-call = refl
+
+-- ---- the code's parts: where a call stands, with room and on a full table; one call twice; what is answered on a damaged table
+
+-- owned by the calls n, …, 1
+abbrev full : ℕ → List Entry
+full zero = []
+full (suc n) = ownedBy (suc n) record7 ∷ full n
+
+abbrev located : List Spot
+located = map (λ (k : ℕ). locateOf k two) (7 ∷ 8 ∷ 9 ∷ []) ++ map (λ (k : ℕ). locateOf k (full 64)) (1 ∷ 65 ∷ [])
+
+abbrev areOnce : List Bool
+areOnce = map (λ (t : List Entry). isOnce (calls t)) (two ∷ set two 9 (ownedBy 7 record7) ∷ [])
+
+abbrev onDamage : List Answer
+onDamage = map (λ (x : Fed). damagedOf (x .item) (x .profile)) (malformed ∷ tooLong ∷ bare (setup 9) ∷ bare (release 9) ∷ setup 7 ∷ [])
+
+pub parts : (located ≡ spot.Own 0 ∷ spot.Own 1 ∷ spot.Free 2 ∷ spot.Own 63 ∷ spot.Nowhere ∷ [])
+    × (areOnce ≡ true ∷ false ∷ [])
+    × (onDamage ≡ Refused 1 ∷ Refused 1 ∷ Refused 2 ∷ Refused 3 ∷ Refused 3 ∷ [])
+unfolding flatten bytes.all contains leads same itemBytes itemInRange restAt bodyFrom bodyOf itemOf isItem readItem entryOf fieldsOf profileBytes profileInRange numbersAt numbersEnd viewAt profileOf isProfile someMatches triggers someArmed entriesOf areGood arePossible armedWith met continued aborted respondOf openOf placesInRange numberInRange recordInRange isBlank log final next find all fresh once isSound unless store place setupAt otherAt serve damage tableStep blankEntry earlyOf calls among isOnce damagedOf readProfile
+parts = (refl, refl, refl)

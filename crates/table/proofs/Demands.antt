@@ -24,35 +24,19 @@ use Rattle.call.specs.Answers.{isAccepted}
 use Rattle.call.proofs.CallTheorems.{isOver}
 use Rattle.call.proofs.Numbers.{isOneOf, accepted-one, one-of-more, respondNumbers, stepNumbers, openNumbers, respond-numbers, step-numbers, open-numbers}
 use Rattle.call.proofs.Order.{either-order, either-order-items}
-use Rattle.table.specs.Types.{Record, Answer, Stepped, Entry}
+use Rattle.table.specs.Types.{Record, Answer, Entry}
 use Rattle.table.specs.Runs.{log, final}
 use Rattle.table.specs.Table.{goes, ends, unless, damage, fresh, tableStep, serve, setupAt, otherAt, place, store}
 use Rattle.table.specs.Entry.{ownedBy, blankEntry, ourSlots}
-use Rattle.table.specs.Feed.{itemIn, restIn, earlyOf, effectAs, ourCall, isSoundTable, feedStep}
+use Rattle.table.specs.Feed.{itemIn, restIn, earlyOf, effectAs, ourCall, isSoundTable, feedStep, Turn, Feeds}
 use Rattle.table.specs.EntryPoints.{EntryPoint, period, timer, read-item, read-item-at, write-item, read-profile, feed-chunk, open-call, respond, step, feed, feed-sound, numbers, inPeriod, inTimer, inReadItem, inWritten, inReadProfile, inOutcome, inAnswer, refusal}
-use Rattle.table.specs.Demands.{Turn, Feeds, Demand1, ownSlot, freeSlot, stored, firstRow, rows, slot, made, due, Demand2, Run, endOf, Started, ending, fed, line, Demand3, Demands}
-use Rattle.table.proofs.Ours.{item-fits, Opens, setup-opens, ours}
+use Rattle.table.specs.Demands.{Demand1, ownSlot, freeSlot, stored, firstRow, rows, slot, made, due, Demand2, Run, endOf, Started, ending, fed, line, Demand3, Demands}
+use Rattle.table.proofs.Ours.{item-fits, setup-opens, ours}
 
 -- ---- demand 2: the rows in their order, then what `call` makes of the item
 
-stored-so : (t : List Entry) (k i : ℕ) (a : Answer) (next : Record) → store ourCall ourSlots t k i (effectAs a next) ≡ (a, stored t k i a next)
-unfolding store
-stored-so t k i (Refused n) next = refl
-stored-so t k i (Accepted o) next = go (o .over)
-  where
-    go : (b : Bool) → store ourCall ourSlots t k i (cond b (ends (Accepted o)) (goes (Accepted o) next)) ≡ (Accepted o, set t i (cond b blankEntry (ownedBy k next)))
-    go true = refl
-    go false = refl
-
-opened-so : (t : List Entry) (k i : ℕ) (s : Stepped) → Opens s → set t i (ownedBy k (s .next)) ≡ stored t k i (s .answer) (s .next)
-opened-so t k i s (h, o) = go (s .answer) h o
-  where
-    go : (a : Answer) → isAccepted a ≡ true → isOver a ≡ false → set t i (ownedBy k (s .next)) ≡ stored t k i a (s .next)
-    go (Accepted o) h e = rw e
-    go (Refused n) h e = absurd (false≢true h)
-
 -- the numbers that are given on a sound table, and on one that is not
-abbrev pub numbersOn : Bool → List ℕ
+abbrev numbersOn : Bool → List ℕ
 numbersOn true = 1 ∷ 2 ∷ 4 ∷ 5 ∷ 6 ∷ 7 ∷ 8 ∷ 9 ∷ 10 ∷ 11 ∷ 12 ∷ 13 ∷ 14 ∷ []
 numbersOn false = 1 ∷ 2 ∷ 3 ∷ []
 
@@ -61,10 +45,23 @@ module _ (t : List Entry) (x : Fed) where
   Right = (feedStep t x ≡ due t x) × (isOneOf (numbersOn (isSoundTable t)) (due t x .0) ≡ true)
 
   right : Right
-  unfolding tableStep earlyOf unless damage serve setupAt otherAt place all contains
+  unfolding tableStep earlyOf unless damage serve setupAt otherAt place store all contains
   right =
       go (isItem (itemIn x) (x .item)) (isSetup (itemIn x)) (isProfile (profileOf (x .profile)) (x .profile)) (isSoundTable t) (ownSlot t x) (freeSlot t x) refl refl refl refl refl refl
     where
+      -- what `call` makes of an item of an open call, and of a Setup that opens one, is stored
+      met : (k i : ℕ) (a : Answer) (next : Record) → store ourCall ourSlots t k i (effectAs a next) ≡ (a, stored t k i a next)
+      met k i (Refused n) next = refl
+      met k i (Accepted o) next = by (o .over)
+        where
+          by : (b : Bool) → store ourCall ourSlots t k i (cond b (ends (Accepted o)) (goes (Accepted o) next)) ≡ (Accepted o, set t i (cond b blankEntry (ownedBy k next)))
+          by true = refl
+          by false = refl
+
+      opened : (k i : ℕ) (a : Answer) (next : Record) → isAccepted a ≡ true → isOver a ≡ false → set t i (ownedBy k next) ≡ stored t k i a next
+      opened k i (Accepted o) next h e = rw e
+      opened k i (Refused n) next h e = absurd (false≢true h)
+
       go : (i s p w : Bool) (o f : Option ℕ) → isItem (itemIn x) (x .item) ≡ i → isSetup (itemIn x) ≡ s → isProfile (profileOf (x .profile)) (x .profile) ≡ p → isSoundTable t ≡ w
           → ownSlot t x ≡ o → freeSlot t x ≡ f → Right
       go false s p true o f a b c d e g = rw (a, d) (refl, refl)
@@ -77,13 +74,13 @@ module _ (t : List Entry) (x : Fed) where
       go true false p true (some i) f a b c d e g =
           let r = getD t i blankEntry .body in
           let s = respondOf r (itemIn x) (restIn x) in
-          rw (a, b, d, e) (stored-so t (itemIn x .call) i (s .answer) (s .next), one-of-more respondNumbers (numbersOn true) (s .answer) refl (respond-numbers r (itemIn x) (restIn x)))
+          rw (a, b, d, e) (met (itemIn x .call) i (s .answer) (s .next), one-of-more respondNumbers (numbersOn true) (s .answer) refl (respond-numbers r (itemIn x) (restIn x)))
       go true true true true (some i) f a b c d e g = rw (a, b, c, d, e) (refl, refl)
       go true true true true none none a b c d e g = rw (a, b, c, d, e, g) (refl, refl)
       go true true true true none (some j) a b c d e g =
           let s = openOf (itemIn x) (restIn x) (x .profile) in
           let q = setup-opens (itemIn x) (restIn x) (x .profile) (item-fits (itemIn x) (x .item) a) b c in
-          rw (a, b, c, d, e, g) (ap (λ u. (s .answer, u)) (opened-so t (itemIn x .call) j s q), accepted-one (numbersOn true) (s .answer) (q .0))
+          rw (a, b, c, d, e, g) (ap (λ u. (s .answer, u)) (opened (itemIn x .call) j (s .answer) (s .next) (q .0) (q .1)), accepted-one (numbersOn true) (s .answer) (q .0))
 
 abbrev given : Turn → Fed
 given f = record { item = f .item; profile = f .profile }

@@ -2,7 +2,8 @@
 use Prim.Native.Nat.{ℕ, suc}
 use mathlib.Core.Path.{_≡_, refl}
 use mathlib.Core.Bool.{Bool, true, false}
-use mathlib.Core.List.{List, [], _∷_, _++_}
+use mathlib.Core.List.{List, [], _∷_, _++_, map}
+use lib.ListN.{replicate}
 use Rattle.forms.specs.declared.units.Tenths.{Tenths}
 use Rattle.call.specs.declared.answers.Answer.{Answer}
 use Rattle.call.specs.declared.answers.Answer.the-variants.{Accepted, Refused}
@@ -17,7 +18,7 @@ use Rattle.call.specs.declared.answers.Deadline.the-variants as D
 use Rattle.call.specs.declared.points.Role.the-variants as P
 use Rattle.call.specs.declared.record.Hold.{Hold}
 use Rattle.call.specs.declared.record.Hold.the-variants as H
-use Rattle.table.specs.Line.{text, digits, decimal, lineOf, header}
+use Rattle.table.specs.Line.{text, digits, decimal, lineOf, header, printed}
 
 abbrev ok : Relationship → Hold → Report → ChargeReport → ChargeReport → Deadline → Bool → Answer
 ok relationship hold event charge1 charge2 deadline over =
@@ -31,14 +32,21 @@ abbrev linesFrom : ℕ → List Answer → List ℕ
 linesFrom n [] = []
 linesFrom n (a ∷ l) = lineOf n a ++ linesFrom (suc n) l
 
+-- "ok control 2 r2/1" and "ok none - over"
+abbrev pub triggered : Answer
+triggered = ok Control H.Trigger R.Trigger C.None C.None D.None false
+
+abbrev pub ended : Answer
+ended = ok None H.None R.None C.None C.None D.None true
+
 -- the answers of the example, and its listing
 abbrev answers : List Answer
 answers =
-    ok Control H.Trigger R.Trigger C.None C.None D.None false
+    triggered
     ∷ ok Control H.Trigger R.None C.None C.None D.None false
     ∷ ok Control H.None R.None C.None C.None (D.At (tenths 1300)) false
     ∷ ok Control (H.At P.NoAnswer) (R.Interrupting P.NoAnswer) C.None C.None D.None false
-    ∷ ok None H.None R.None C.None C.None D.None true
+    ∷ ended
     ∷ Refused 4
     ∷ []
 
@@ -52,3 +60,14 @@ pub all-parts : lineOf 18446744073709551615 (ok Monitor (H.At P.Moved) (R.Notifi
     ≡ text "18446744073709551615 ok monitor 50 n19/2 c1=0 c2=123 d281474976710665 over\n"
 unfolding lineOf decimal digits
 all-parts = refl
+
+-- reports for leg 1; one charge alone
+pub one-charge : linesFrom 9 (ok Monitor H.None (R.Notification P.Moved) (C.Elapsed (tenths 36000)) C.None D.None false ∷ ok Control (H.At P.Abandon) (R.Interrupting P.Abandon) C.None (C.Elapsed (tenths 600)) D.None false ∷ Refused 14 ∷ [])
+    ≡ text "9 ok monitor - n50/1 c1=36000\n10 ok control 10 r10/1 c2=600\n11 refused 14\n"
+unfolding lineOf decimal digits
+one-charge = refl
+
+-- a text stored from place 1 on, where there is room for the longest line, and where one byte is missing
+pub storing : map (λ n. printed (text "ab") (replicate n 46) 1) (129 ∷ 128 ∷ []) ≡ (3, 46 ∷ 97 ∷ 98 ∷ replicate 126 46) ∷ (1, replicate 128 46) ∷ []
+unfolding printed
+storing = refl

@@ -17,13 +17,13 @@ use Rattle.forms.specs.declared.units.Tenths.{Tenths}
 use Rattle.forms.proofs.ByteLaws.{and-left, and-right}
 use Rattle.call.specs.declared.answers.Answer.the-variants.{Accepted, Refused}
 use Rattle.call.specs.declared.record.Stage.the-variants.{Analysing}
-use Rattle.call.specs.Relationship.{someArmed}
-use Rattle.call.specs.Range.{recordInRange, placesInRange, isBlank}
+use Rattle.call.specs.Range.{recordInRange}
 use Rattle.call.specs.Trigger.{triggers}
 use Rattle.call.specs.Setup.{begun, openAs, openOf}
 use Rattle.call.specs.Step.{isSetup, kindOf, respondOf}
 use Rattle.call.specs.Alone as alone
 use Rattle.call.specs.Alone.{Fed, aloneStep}
+use Rattle.call.proofs.Blank.{blank-passes}
 use Rattle.call.proofs.InRange.{isLeftWell, respond-left, open-left}
 use Rattle.call.specs.Answers.{isAccepted}
 use Rattle.call.proofs.CallTheorems.{isOver}
@@ -31,7 +31,7 @@ use Rattle.call.proofs.Numbers.{isOneOf, accepted-one, one-of-more, respondNumb
 use Rattle.table.specs.Types.{Item, Record, Answer, Stepped, Entry}
 use Rattle.table.specs.Table.{goes, ends, unless, fresh, Done}
 use Rattle.table.specs.Entry.{blankEntry, ourSlots}
-use Rattle.table.specs.Feed.{itemIn, restIn, earlyOf, effectAs, effectOf, ourCall, isSoundTable, feedOf}
+use Rattle.table.specs.Feed.{itemIn, restIn, earlyOf, effectAs, effectOf, ourCall, isSoundTable, feedOf, turn, Feeds}
 use Rattle.table.specs.Independence.{Independence}
 use Rattle.table.proofs.Promises.{Kept, keep, setupAlone, otherAlone, serveAlone, aloneAs, onNext, Promises}
 use Rattle.table.proofs.Independence.{independence, stays-sound, fresh-is-sound}
@@ -178,10 +178,6 @@ begin-in-range x e h =
     let q = setup-opens (itemIn x) (restIn x) (x .profile) (item-in-range x e) h (checks x e .1 h) in
     rw (opened-goes (s .answer) (s .next) q .0) at (left-in-range s (itemIn x .time) (open-left (itemIn x) (restIn x) (x .profile)))
 
-blank-is-blank : isBlank (blankEntry .body) ≡ true
-unfolding blankEntry isBlank someArmed placesInRange
-blank-is-blank = refl
-
 promises : Promises ourCall ourSlots
 unfolding blankEntry contains
 promises =
@@ -189,7 +185,7 @@ promises =
       owner-own = λ k r. refl;
       body-own = λ k r. refl;
       owner-blank = refl;
-      blank-blank = blank-is-blank;
+      blank-blank = blank-passes;
       begin-range = begin-in-range;
       meet-range = λ r x e h o. left-in-range (respondOf r (itemIn x) (restIn x)) (itemIn x .time) (respond-left r (itemIn x) (restIn x) o (item-in-range x e));
       alone-is = λ v x. alone-as x v .0;
@@ -206,7 +202,7 @@ pub stays : (t : List Entry) (item profile : List ℕ) → isSoundTable t ≡ tr
 stays t item profile e = stays-sound ourCall ourSlots promises t (record { item = item; profile = profile }) e
 
 -- so the table that whatever keeps to `feed`'s contract leaves
-pub fed-stays : (t u : List Entry) (item profile : List ℕ) (a : Answer) → isSoundTable t ≡ true → (a, u) ≡ feedOf t item profile → ((a, u) ≡ feedOf t item profile) × (isSoundTable u ≡ true)
+pub fed-stays : (t u : List Entry) (item profile : List ℕ) (a : Answer) → isSoundTable t ≡ true → Feeds (turn t item profile a u) → Feeds (turn t item profile a u) × (isSoundTable u ≡ true)
 fed-stays t u item profile a e f = (f, ap (λ (d : Done ourCall ourSlots). isSoundTable (d .1)) f ∙ stays t item profile e)
 
 -- a fresh table is sound

@@ -1,4 +1,4 @@
--- Start here. The three demands, each said of whatever keeps to `feed`'s contract; `demands` in proofs/Demands.antt proves them.
+-- Start here. The three demands, each said of whatever keeps to `feed`'s contract (`Feeds`, in Feed.antt); `demands` in proofs/Demands.antt proves them.
 -- The words between quotes are the demands' own and document 01's. What they rest on: `forms` (the written forms), `call` (one call), and here Table, Entry, Feed, EntryPoints, and of lists Runs and Independence.
 use Prim.Native.Nat.{ℕ, _^_, _<_}
 use mathlib.Core.Bool.{true, not, cond, _&&_}
@@ -24,23 +24,9 @@ use Rattle.table.specs.Types.{Item, Record, Answer, Stepped, Entry}
 use Rattle.table.specs.Runs.{All, final, eachAlone}
 use Rattle.table.specs.Table.{isNone, find, isFree, owns, look, fresh, unless, ofCall}
 use Rattle.table.specs.Entry.{ownedBy, blankEntry, ourSlots}
-use Rattle.table.specs.Feed.{itemIn, restIn, ourCall, isSoundTable, feedOf}
+use Rattle.table.specs.Feed.{itemIn, restIn, ourCall, isSoundTable, Turn, Feeds}
 use Rattle.table.specs.EntryPoints.{EntryPoint, numbers, refusal}
 use Rattle.table.specs.Independence.{itemsOf, linesOf}
-
--- ---- a turn of `feed`
-
--- what is handed in (the table, the item's bytes, a profile's) and what comes out (the answer, the table afterwards)
-pub record Turn : Type 0 where
-  pub before : List Entry
-  pub item : List ℕ
-  pub profile : List ℕ
-  pub answer : Answer
-  pub after : List Entry
-
--- the contract of `feed`, which asks nothing of what is handed in
-abbrev pub Feeds : Turn → Type 0
-Feeds f = (f .answer, f .after) ≡ feedOf (f .before) (f .item) (f .profile)
 
 -- ---- Demand 1, anything may come in
 

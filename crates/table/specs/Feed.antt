@@ -3,6 +3,7 @@ use Prim.Native.Nat.{ℕ}
 use mathlib.Core.Bool.{Bool, not, cond, _&&_}
 use mathlib.Core.List.{List}
 use mathlib.Core.Option.{Option, none, some}
+use mathlib.Core.Path.{_≡_}
 use Rattle.forms.specs.Item.{itemOf, restOf, isItem}
 use Rattle.forms.specs.Profile.{profileOf, isProfile}
 use Rattle.call.specs.declared.answers.Answer.the-variants.{Accepted, Refused}
@@ -59,3 +60,20 @@ feedStep = tableStep ourCall ourSlots
 
 abbrev pub feedOf : List Entry → List ℕ → List ℕ → Answer × List Entry
 feedOf t item profile = feedStep t (record { item = item; profile = profile })
+
+-- ---- a turn of `feed`
+
+-- what is handed in (the table, the item's bytes, a profile's) and what comes out (the answer, the table afterwards)
+pub record Turn : Type 0 where
+  pub before : List Entry
+  pub item : List ℕ
+  pub profile : List ℕ
+  pub answer : Answer
+  pub after : List Entry
+
+abbrev pub turn : List Entry → List ℕ → List ℕ → Answer → List Entry → Turn
+turn before item profile answer after = record { before = before; item = item; profile = profile; answer = answer; after = after }
+
+-- what `feed` promises, whatever is handed in; the demands (Demands.antt) follow from it
+abbrev pub Feeds : Turn → Type 0
+Feeds f = (f .answer, f .after) ≡ feedOf (f .before) (f .item) (f .profile)

@@ -1,7 +1,7 @@
 // An item on the lent table: its answer, and one entry changed at most (document 01, The call table).
 ghost use mathlib.Core.Path.{_≡_};
 ghost use mathlib.Core.Bool.{true};
-ghost use Rattle.table.specs.Feed.{isSoundTable, feedOf};
+ghost use Rattle.table.specs.Feed.{isSoundTable, turn, Feeds};
 use crate::check;
 use crate::entry::Entry;
 use crate::lookup;
@@ -12,7 +12,7 @@ use forms::item;
 // On a table that is known to be sound, as a fresh one is and this leaves it: refusal 3 is not looked for.
 pub fn feed_sound(table: &mut [Entry], item: &[u8], profile: &[u8]) -> Answer
     requires { ⌜ isSoundTable (now table) ≡ true ⌝ }
-    ensures { λ a. ⌜ ((a, now (table .exit)) ≡ feedOf (now (table .entry)) (now (item .entry)) (now (profile .entry))) × (isSoundTable (now (table .exit)) ≡ true) ⌝ }
+    ensures { λ a. ⌜ Feeds (turn (now (table .entry)) (now (item .entry)) (now (profile .entry)) a (now (table .exit))) × (isSoundTable (now (table .exit)) ≡ true) ⌝ }
 {
     let call = item::call_in(item);
     let s = lookup::locate(table, call);
@@ -25,7 +25,7 @@ pub fn feed_sound(table: &mut [Entry], item: &[u8], profile: &[u8]) -> Answer
 
 // On any table, of any length.
 pub fn feed(table: &mut [Entry], item: &[u8], profile: &[u8]) -> Answer
-    ensures { λ a. ⌜ (a, now (table .exit)) ≡ feedOf (now (table .entry)) (now (item .entry)) (now (profile .entry)) ⌝ }
+    ensures { λ a. ⌜ Feeds (turn (now (table .entry)) (now (item .entry)) (now (profile .entry)) a (now (table .exit))) ⌝ }
 {
     if check::is_sound(table) {
         feed_sound(table, item, profile)
