@@ -26,7 +26,7 @@ use Rattle.call.specs.Step.{respondOf, stepOf}
 use Rattle.table.specs.Types.{Item, ReadItem, ReadProfile, Record, Answer, Entry}
 use Rattle.table.specs.Feed.{isSoundTable, feedOf}
 
--- ---- an entry point, with what it is handed
+-- ---- an entry point, with what it is handed. (`feeder::take` says 15 by a variant of its own, `Closed`; `answers::refuse` gives the number that it is handed.)
 
 pub data EntryPoint : Type 0 where
   -- `forms`: `Tenths::period`, `Seconds::timer`, `read_item`, `read_item_at` (`Reader::item` asks it), `write_item`, `read_profile`, `feeder::feed`
