@@ -1,4 +1,4 @@
-// Standard input: the profile, and then items through the feeder. A read may give any number of bytes; one that fails counts as the end.
+// Standard input: the profile, and then items through the feeder. A read may give any number of bytes. One that fails ends the listing: it is said on standard error, and what it cuts short gets no answer.
 // The buffer's first half has the profile at its front, and what was read with it. Later reads go to BASE, so that the bytes that a feeder holds have room in front of them.
 ghost use mathlib.Core.Path.{_≡_};
 ghost use Prim.Native.Nat.{_≤_, _-_};
@@ -11,6 +11,7 @@ use forms::feeder::Feeder;
 use forms::feeder::Taken;
 use forms::framing;
 use forms::framing::Framing;
+use libc::STDERR_FILENO;
 use libc::STDIN_FILENO;
 
 // The input stands in the first half of the program's one buffer.
@@ -19,21 +20,44 @@ pub const HALF: usize = 32768;
 // A profile has 188 bytes at most, an unfinished item 64.
 const BASE: usize = 256;
 
-// Where the bytes that are left begin and end in the buffer, and what begins there.
+// Where the bytes that are left begin and end in the buffer, what begins there, and whether a read for it failed.
 pub struct Place {
     pub at: usize,
     pub end: usize,
     pub found: Framing,
+    pub failed: bool,
 }
 
-// One read to place `at` and behind it; answers where its bytes end.
-fn read_to(s: &mut [u8], at: usize) -> usize
+// Where the bytes of a read end, and whether it failed.
+pub struct Arrived {
+    pub end: usize,
+    pub failed: bool,
+}
+
+// Whether what a read answered means that it failed, which is said.
+fn has_failed(got: isize) -> bool {
+    let failed = got < 0;
+    if failed {
+        io::write_all(
+            STDERR_FILENO,
+            b"listing: reading standard input failed; the listing ends before what could not be read\n",
+        );
+    }
+    failed
+}
+
+// One read to place `at` and behind it.
+fn read_to(s: &mut [u8], at: usize) -> Arrived
     requires { ⌜ (at ≤ 32768) × (32768 ≤ length (now s)) ⌝ }
-    ensures { λ r. ⌜ (at ≤ r) × (r ≤ 32768) ⌝ }
+    ensures { λ r. ⌜ (at ≤ r .end) × (r .end ≤ 32768) ⌝ }
 {
     let part = &mut s[at..HALF];
     let got = libc::read(STDIN_FILENO, part);
-    at + io::count(got, part)
+    let end = at + io::count(got, part);
+    Arrived {
+        end,
+        failed: has_failed(got),
+    }
 }
 
 // What the first `end` bytes begin with.
@@ -41,19 +65,23 @@ fn profile_in(s: &[u8], end: usize) -> Framing {
     framing::of_profile(end, bytes::number2(s))
 }
 
-// Reads until the profile is whole, or the input ends; answers where the bytes end.
-fn fill(s: &mut [u8]) -> usize
+// Reads until the profile is whole, or the input ends.
+fn fill(s: &mut [u8]) -> Arrived
     requires { ⌜ 32768 ≤ length (now s) ⌝ }
 {
     let mut e = 0;
     while framing::is_short(profile_in(s, e)) {
         let more = read_to(s, e);
-        if more <= e {
-            return e;
+        let end = more.end;
+        if end <= e {
+            return more;
         }
-        e = more;
+        e = end;
     }
-    e
+    Arrived {
+        end: e,
+        failed: false,
+    }
 }
 
 // Finds the profile.
@@ -63,11 +91,16 @@ pub(crate) fn find_profile(s: &mut [u8]) -> Place {
             at: 0,
             end: 0,
             found: Framing::Short,
+            failed: false,
         };
     }
-    let end = fill(s);
-    let found = profile_in(s, end);
-    Place { at: 0, end, found }
+    let arrived = fill(s);
+    Place {
+        at: 0,
+        end: arrived.end,
+        found: profile_in(s, arrived.end),
+        failed: arrived.failed,
+    }
 }
 
 // The bytes from place `at` to `end`.
@@ -95,10 +128,11 @@ fn goes_on(f: Feeder, c: &[u8]) -> bool
     (0 < c.len()) & is_unfinished(feeder::take(f, c))
 }
 
-// A feeder, and where the bytes end that were read last.
+// A feeder, where the bytes end that were read last, and whether that read failed.
 pub struct Reading {
     pub feeder: Feeder,
     pub end: usize,
+    pub failed: bool,
 }
 
 // Reads on behind the bytes that f holds, until a chunk finishes the item or the input ends.
@@ -106,14 +140,18 @@ fn read_on(s: &mut [u8], f: Feeder) -> Reading
     requires { ⌜ 32768 ≤ length (now s) ⌝ }
 {
     let mut feeder = f;
-    let mut end = read_to(s, BASE);
-    while goes_on(feeder, chunk_in(s, BASE, end)) {
-        let fed = feeder::feed(feeder, chunk_in(s, BASE, end));
+    let mut last = read_to(s, BASE);
+    while goes_on(feeder, chunk_in(s, BASE, last.end)) {
+        let fed = feeder::feed(feeder, chunk_in(s, BASE, last.end));
         let next = fed.feeder;
         feeder = next;
-        end = read_to(s, BASE);
+        last = read_to(s, BASE);
     }
-    Reading { feeder, end }
+    Reading {
+        feeder,
+        end: last.end,
+        failed: last.failed,
+    }
 }
 
 // Stores the bytes h so that they end at BASE; answers where they begin.
@@ -171,13 +209,26 @@ fn find_on(s: &mut [u8], f: Feeder) -> Place
         at,
         end,
         found: found_of(taken, BASE - at),
+        failed: r.failed,
+    }
+}
+
+// What begins at `at` in what was read.
+pub(crate) fn find_here(s: &[u8], at: usize, end: usize) -> Place {
+    let taken = feeder::take(feeder::new(), chunk_in(s, at, end));
+    Place {
+        at,
+        end,
+        found: found_of(taken, 0),
+        failed: false,
     }
 }
 
 // Finds the item that begins at `at`: there, or, where it is not whole, put together from what follows in the input.
 pub(crate) fn find_item(s: &mut [u8], at: usize, end: usize) -> Place {
-    let taken = feeder::take(feeder::new(), chunk_in(s, at, end));
-    if is_unfinished(taken) {
+    let here = find_here(s, at, end);
+    let found = here.found;
+    if framing::is_short(found) {
         // The buffer is always so long: tested here, it needs no `requires` above.
         if HALF <= s.len() {
             let fed = feeder::feed(feeder::new(), chunk_in(s, at, end));
@@ -185,9 +236,5 @@ pub(crate) fn find_item(s: &mut [u8], at: usize, end: usize) -> Place {
             return find_on(s, f);
         }
     }
-    Place {
-        at,
-        end,
-        found: found_of(taken, 0),
-    }
+    here
 }

@@ -1,4 +1,5 @@
 // The listing program (document 01): a profile and then items on standard input, and a line for each item's answer on standard output.
+ghost use mathlib.Core.Path.{_≡_};
 ghost use Prim.Native.Nat.{_<_};
 ghost use Rattle.listing.specs.State.{past, remaining};
 
@@ -7,6 +8,7 @@ mod output;
 
 use call::answers::Answer;
 use forms::bytes;
+use forms::framing;
 use forms::framing::Framing;
 use forms::profile;
 use forms::profile::ReadProfile;
@@ -78,29 +80,56 @@ fn with_item(s: State, at: usize, end: usize, n: usize) -> State
     }
 }
 
+// Refusal 1 where the input ends inside an item; none where it ends behind one, or where it could not be read.
+fn cut_short(place: Place) -> u8 {
+    if (place.at < place.end) & !place.failed {
+        1
+    } else {
+        0
+    }
+}
+
 // What stands at a place is next: an item; the end of the input; or bytes that are no whole item, which is refusal 1.
 fn at_place(s: State, place: Place) -> State
     ensures { λ r. ⌜ remaining r < past (s .number) ⌝ }
 {
     let found = place.found;
-    let cut: u8 = if place.at < place.end { 1 } else { 0 };
     match found {
-        Framing::Short => ended(s, cut),
+        Framing::Short => ended(s, cut_short(place)),
         Framing::Bad => ended(s, 1),
         Framing::Whole(n) => with_item(s, place.at, place.end, n),
     }
 }
 
-// Fetches the item after the one that was answered.
+// The output has been written.
+fn emptied(s: State) -> State
+    ensures { λ r. ⌜ r .number ≡ s .number ⌝ }
+{
+    let mut t = s;
+    t.filled = HALF;
+    t
+}
+
+// Fetches the item after the one that was answered. Before it waits for more input, and where a further line would have no room, the output is written; where that fails, no item is left.
 fn fetch(buf: &mut [u8], s: State) -> State
     ensures { λ r. ⌜ remaining r < past (s .number) ⌝ }
 {
     let at = input::sum(s.at, s.size);
-    let place = input::find_item(buf, at, s.end);
-    at_place(s, place)
+    let here = input::find_here(buf, at, s.end);
+    let found = here.found;
+    if !framing::is_short(found) & line::has_room(buf, s.filled) {
+        return at_place(s, here);
+    }
+    let t = emptied(s);
+    if output::flush(buf, s.filled) {
+        let place = input::find_item(buf, at, s.end);
+        at_place(t, place)
+    } else {
+        ended(t, 0)
+    }
 }
 
-// Reads the profile and stores the header. Refusal 2, with number 0, where the profile is cut short or malformed; else the first item is fetched.
+// Reads the profile and stores the header. Refusal 2, with number 0, where the profile is cut short or malformed; none where it could not be read; else the first item is fetched.
 fn start(buf: &mut [u8]) -> State {
     let place = input::find_profile(buf);
     let found = place.found;
@@ -112,7 +141,7 @@ fn start(buf: &mut [u8]) -> State {
         end: place.end,
         filled: line::header(buf, HALF),
         number: 0,
-        refusal: 2,
+        refusal: if place.failed { 0 } else { 2 },
         more: false,
     };
     if is_profile(bytes::part_of(buf, 0, n)) {
@@ -135,7 +164,7 @@ fn advance(buf: &mut [u8], s: State, answer: Answer) -> State
     ensures { λ r. ⌜ remaining r < past (s .number) ⌝ }
 {
     let mut t = s;
-    t.filled = output::put_line(buf, s.filled, s.number, answer);
+    t.filled = line::line(buf, s.filled, s.number, answer);
     fetch(buf, t)
 }
 
@@ -144,7 +173,7 @@ fn finish(buf: &mut [u8], s: State) {
     if s.refusal == 0 {
         output::flush(buf, s.filled);
     } else {
-        let filled = output::put_line(buf, s.filled, s.number, Answer::Refused(s.refusal));
+        let filled = line::line(buf, s.filled, s.number, Answer::Refused(s.refusal));
         output::flush(buf, filled);
     }
 }
