@@ -4,39 +4,23 @@
 //! as they land), in the most direct way, and run beside the proved program:
 //! where the two differ, the papers decide.
 
-// What the papers say.
-mod answer;
-mod call;
-mod feeder;
-mod forms;
-mod listing;
-mod record;
-mod table;
-mod trigger;
-
-// The commands that test and measure.
 mod bench;
-mod check;
-mod chunks;
 mod compare;
-mod compare_chunks;
-mod compare_tables;
-mod compare_triggers;
-mod counts;
-mod coverage;
-mod generate;
-mod program;
-mod random;
-mod rounds;
-mod tables;
+mod paper;
 #[cfg(test)]
 mod tests;
-mod text;
-mod triggers;
+mod texts;
 
+use bench::measure;
+use compare::{
+    check, chunks, compare_chunks, compare_listings, compare_tables, compare_triggers, coverage,
+    generate, tables, triggers,
+};
+use paper::listing;
 use std::env;
 use std::io::{self, BufReader, Read, Write};
 use std::process::ExitCode;
+use texts::text;
 
 const USAGE: &str = "\
 second: the second program, written from the papers alone, to be run beside the
@@ -46,7 +30,7 @@ The program of document 01
   second listing < BYTES         reads a profile and items, and lists an answer
                                  to each item
 
-Scenarios as text: a profile and items in words (src/text.rs shows an example)
+Scenarios as text: a profile and items in words (src/texts/text.rs shows one)
   second assemble [FILE] > BYTES makes of the text (FILE or standard input) the
                                  bytes that a listing program reads
   second explain < BYTES         makes text of such bytes; what is malformed
@@ -65,14 +49,14 @@ Random scenarios; the same SEED (1 if left out) gives the same ones
                                  random pieces, and compares the listings;
                                  prints the coverage too
 
-Tables handed in whole, sound ones and damaged ones (src/tables.rs has the form)
+Tables handed in whole, sound and damaged (src/compare/tables.rs has the form)
   second tables < CASES          answers cases, each a table with one item, and
                                  gives each table as it is afterwards
   second compare-tables PROGRAM COUNT [SEED]
                                  runs PROGRAM, which does the same, and this one
                                  on COUNT random cases, and compares
 
-Items that arrive in bits (src/chunks.rs has the form)
+Items that arrive in bits (src/compare/chunks.rs has the form)
   second chunks < CASES          answers cases, each a feeder handed in with
                                  chunks and resets
   second compare-chunks PROGRAM COUNT [SEED]
@@ -81,7 +65,7 @@ Items that arrive in bits (src/chunks.rs has the form)
                                  compares; and holds this program's feeder to
                                  T-02's sentence about cuts
 
-Trigger checks, over and over (src/triggers.rs says what one is)
+Trigger checks, over and over (src/compare/triggers.rs says what one is)
   second check-triggers < BYTES  checks Setups against a profile's stored
                                  numbers, over and over: reads 1 byte (2: the
                                  last digit first, 3: from the front), 4 bytes
@@ -141,7 +125,7 @@ fn run(words: &[&str]) -> Result<bool, String> {
         ["coverage"] => return Ok(coverage::run(20_000, 1)),
         ["coverage", count, seed @ ..] => return Ok(coverage::run(number(count)?, first(seed)?)),
         ["compare", program, count, seed @ ..] => {
-            return compare::run(program, number(count)?, first(seed)?)
+            return compare_listings::run(program, number(count)?, first(seed)?)
         }
         ["tables"] => write_output(&tables::run(&read_input()?)?)?,
         ["compare-tables", program, count, seed @ ..] => {
@@ -155,8 +139,8 @@ fn run(words: &[&str]) -> Result<bool, String> {
         ["compare-triggers", program, count, seed @ ..] => {
             return compare_triggers::run(program, number(count)?, first(seed)?)
         }
-        ["feed-items"] => println!("{}", bench::feed_items(&read_input()?)?),
-        ["bench-input", open @ ("1" | "32" | "64"), items] => write_output(&bench::input(
+        ["feed-items"] => println!("{}", measure::feed_items(&read_input()?)?),
+        ["bench-input", open @ ("1" | "32" | "64"), items] => write_output(&measure::input(
             number(open)? as u32,
             number(items)? as usize,
         )?)?,
@@ -174,7 +158,7 @@ fn list() -> io::Result<()> {
 }
 
 fn measure(listing: &str, program: &str, quick: bool) -> Result<(), String> {
-    bench::run(listing, program, quick).map_err(|error| error.to_string())
+    measure::run(listing, program, quick).map_err(|error| error.to_string())
 }
 
 /// The first seed, which may be left out.

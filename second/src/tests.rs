@@ -5,19 +5,19 @@
 //! Document 01, sections "The listing program" and "Both sides of each edge";
 //! document 02, T-02 and T-03.
 
-use crate::bench;
-use crate::chunks::{self, Case, Step};
-use crate::compare::{self, Pieces};
-use crate::compare_chunks;
-use crate::feeder::Feeder;
-use crate::generate;
-use crate::listing::{self, frames};
-use crate::random::Random;
-use crate::rounds;
-use crate::table;
-use crate::text;
-use crate::trigger::{compare, compare_from_front, Compared};
-use crate::triggers::{self, DIALLED_WITH_LONG_LIST, FROM_FRONT, LAST_FIRST, LONG_LIST};
+use crate::bench::measure;
+use crate::bench::rounds;
+use crate::compare::chunks::{self, Case, Step};
+use crate::compare::compare_chunks;
+use crate::compare::compare_listings::{self, Pieces};
+use crate::compare::generate;
+use crate::compare::random::Random;
+use crate::compare::triggers::{self, DIALLED_WITH_LONG_LIST, FROM_FRONT, LAST_FIRST, LONG_LIST};
+use crate::paper::feeder::Feeder;
+use crate::paper::listing::{self, frames};
+use crate::paper::table;
+use crate::paper::trigger::{compare, compare_from_front, Compared};
+use crate::texts::text;
 use std::io::BufReader;
 use std::iter;
 
@@ -436,7 +436,7 @@ fn trigger_checks_of_a_wrong_input() {
 fn listing_of_pieces() {
     for seed in 0..500 {
         let scenario = generate::scenario(seed);
-        let pieces = compare::cut(&mut Random::new(seed), &scenario);
+        let pieces = compare_listings::cut(&mut Random::new(seed), &scenario);
         let listing = listing::of_input(BufReader::new(Pieces(&pieces)));
         assert_eq!(listing, listing::of(&scenario), "seed {seed}");
     }
@@ -473,7 +473,7 @@ fn range_of_calls() {
 #[test]
 fn bench_input_ends_with_an_empty_table() {
     for open in [1, 32, 64] {
-        let input = bench::input(open, 2500).unwrap();
+        let input = measure::input(open, 2500).unwrap();
         let frames = frames(&input);
         let mut table = table::fresh();
         for item in &frames[1..] {

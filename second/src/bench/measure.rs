@@ -2,12 +2,12 @@
 //! long input; feeding a table, item for item; and trigger checks with a long
 //! list, as they were before T-03 and as they are.
 
-use crate::forms::write_item;
-use crate::listing::frames;
-use crate::rounds::{self, Rounds};
-use crate::table::{self, Entry, ENTRIES};
-use crate::text;
-use crate::triggers::{self, DIALLED_WITH_LONG_LIST, FROM_FRONT, LAST_FIRST, LONG_LIST};
+use crate::bench::rounds::{self, Rounds};
+use crate::compare::triggers::{self, DIALLED_WITH_LONG_LIST, FROM_FRONT, LAST_FIRST, LONG_LIST};
+use crate::paper::forms::write_item;
+use crate::paper::listing::frames;
+use crate::paper::table::{self, Entry, ENTRIES};
+use crate::texts::text;
 use std::fs::{self, File};
 use std::path::{Path, PathBuf};
 use std::process::{self, Child, Command, Stdio};

@@ -1,9 +1,9 @@
 //! Scenarios with their expected answers in the text, held against the
 //! listing program and against this one.
 
-use crate::listing;
-use crate::program;
-use crate::text::{self, Line};
+use crate::compare::program;
+use crate::paper::listing;
+use crate::texts::text::{self, Line};
 
 /// Checks all the files; true if every program says what the texts say.
 pub fn run(program: &str, files: &[&str]) -> Result<bool, String> {

@@ -17,11 +17,11 @@
 //! the item once for each of these calls, in rising order, each with the same
 //! answer. All the kinds of items are in `assemble_words`.
 
-use crate::forms::{
+use crate::paper::forms::{
     kind, read_item, read_profile, with_length_and_version, write_item, Body, Entry, Event,
     Handling, Item, Number, Operation, Other, Profile, Sense, Setup,
 };
-use crate::listing::frames;
+use crate::paper::listing::frames;
 use std::fmt::Write;
 use std::fs;
 use std::ops::RangeInclusive;

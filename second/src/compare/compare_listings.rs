@@ -1,12 +1,14 @@
 //! The listing program and this one on the same generated scenarios, which
 //! reach both in the same pieces.
 
-use crate::counts::Counts;
-use crate::forms::read_item;
-use crate::listing::frames;
-use crate::program::LONGEST_PIECE;
-use crate::random::Random;
-use crate::{coverage, generate, listing, program, text};
+use crate::compare::counts::Counts;
+use crate::compare::program::LONGEST_PIECE;
+use crate::compare::random::Random;
+use crate::compare::{coverage, generate, program};
+use crate::paper::forms::read_item;
+use crate::paper::listing;
+use crate::paper::listing::frames;
+use crate::texts::text;
 use std::io::{self, BufReader, Read};
 use std::ops::Range;
 use std::thread;

@@ -1,15 +1,15 @@
 //! Which forms of document 01 the generated scenarios reach, counted from this
 //! program's own answers.
 
-use crate::answer::Accepted;
-use crate::call::{occurs_at, point_met};
-use crate::counts::Counts;
-use crate::forms::{read_item, read_profile, Body, Other};
-use crate::generate;
-use crate::listing::frames;
-use crate::record::{Mode, Point, Record, Relationship, Stage};
-use crate::table;
-use crate::text;
+use crate::compare::counts::Counts;
+use crate::compare::generate;
+use crate::paper::answer::Accepted;
+use crate::paper::call::{occurs_at, point_met};
+use crate::paper::forms::{read_item, read_profile, Body, Other};
+use crate::paper::listing::frames;
+use crate::paper::record::{Mode, Point, Record, Relationship, Stage};
+use crate::paper::table;
+use crate::texts::text;
 
 const MODES: [Option<Mode>; 3] = [None, Some(Mode::Interrupted), Some(Mode::Notify)];
 const OPERATIONS: [&str; 7] = [
