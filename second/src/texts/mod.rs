@@ -22,12 +22,18 @@
 mod answers;
 mod explain;
 mod items;
+mod listed;
 mod profile;
 mod scenario;
 #[cfg(test)]
 mod tests;
 mod values;
 
+pub use answers::{is_answer, PROFILE_REFUSED};
 pub use explain::{explain, explain_item, explain_profile};
 pub use items::{assemble_body, operation_name};
-pub use scenario::{assemble, assemble_file, assemble_input, bytes_of, Line};
+pub use listed::{heading, listed, Listed};
+pub use scenario::{
+    answerable, assemble, assemble_file, assemble_input, bytes_of, read_file, Line, Scenario,
+};
+pub use values::quoted;

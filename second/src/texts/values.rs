@@ -220,7 +220,7 @@ pub fn missing(field: &str, what: &str) -> String {
 }
 
 /// A word with nothing in it that could disturb the message.
-fn quoted(word: &str) -> String {
+pub fn quoted(word: &str) -> String {
     let mut text: String = word.chars().take(LONGEST_QUOTED).collect();
     if text.len() < word.len() {
         text += "..";
