@@ -12,11 +12,12 @@ use std::collections::BTreeMap;
 const DIFFERS: &str = "-- DIFFERS, expected: ";
 const NO_ANSWER: &str = "-- no answer: ";
 const ENDED: &str = "the listing has ended";
-const HEADING: &str = "-- == ";
 
 /// Where a text has no `->` yet, they stand behind its longest line, but no
 /// further to the right than this.
 const WIDEST: usize = 72;
+/// A column that a text uses is kept up to here.
+const WIDEST_OF_TEXT: usize = 200;
 const BEFORE_COMMENT: usize = 3;
 
 /// A listed scenario, and a message for each answer that is not as expected.
@@ -39,7 +40,7 @@ pub fn listed(name: &str, text: &str, answered: &[Answered]) -> Listed {
         differences: Vec::new(),
     };
     let mut rest = answered;
-    for (number, line) in numbered_lines(text) {
+    for (number, line) in numbered_lines(name, text) {
         let here = |(item, _): &&Answered| item.number == number;
         let (items, behind) = rest.split_at(rest.iter().take_while(here).count());
         let is_profile = !items.is_empty() && rest.len() == answered.len();
@@ -56,7 +57,7 @@ pub fn listed(name: &str, text: &str, answered: &[Answered]) -> Listed {
 
 /// The line that stands before each of several scenarios.
 pub fn heading(name: &str) -> String {
-    format!("{HEADING}{name}")
+    format!("-- == {name}")
 }
 
 fn counts_line(items: usize, differences: usize) -> String {
@@ -70,16 +71,13 @@ fn is_counts_line(line: &str) -> bool {
 
 /// The lines with their numbers, without heading and counts of an earlier
 /// listing. Lines may have been added behind the counts since.
-fn numbered_lines(text: &str) -> Vec<(usize, &str)> {
+fn numbered_lines<'a>(name: &str, text: &'a str) -> impl Iterator<Item = (usize, &'a str)> {
+    let heading = heading(name);
     let lines = (1..).zip(text.lines());
-    let mut lines: Vec<(usize, &str)> = lines.filter(|(_, line)| !is_counts_line(line)).collect();
-    if lines
-        .first()
-        .is_some_and(|(_, line)| line.starts_with(HEADING))
-    {
-        lines.remove(0);
-    }
-    lines
+    lines.filter(move |(number, line)| {
+        let is_heading = *number == 1 && *line == heading;
+        !is_heading && !is_counts_line(line)
+    })
 }
 
 /// The column of most `->` in the text. Those that only stand behind a long line
@@ -88,18 +86,18 @@ fn arrow_column(text: &str) -> usize {
     let written = || text.lines().map(Written::new);
     let mut columns: BTreeMap<usize, usize> = BTreeMap::new();
     for line in written().filter(|line| line.expected.is_some()) {
-        if line.content.ends_with("  ") {
-            *columns.entry(width(line.content)).or_default() += 1;
+        let column = width(line.content);
+        if line.content.ends_with("  ") && column <= WIDEST_OF_TEXT {
+            *columns.entry(column).or_default() += 1;
         }
     }
-    let most = columns.into_iter().max_by_key(|(_, count)| *count);
+    if let Some((column, _)) = columns.into_iter().max_by_key(|(_, count)| *count) {
+        return column;
+    }
     let contents = written().map(|line| width(line.content.trim_end()));
     // The profile has no answer to be lined up.
     let items = contents.filter(|width| *width > 0).skip(1);
-    most.map_or_else(
-        || items.max().unwrap_or(0).min(WIDEST) + 1,
-        |(column, _)| column,
-    )
+    items.max().unwrap_or(0).min(WIDEST) + 1
 }
 
 fn width(text: &str) -> usize {
@@ -133,72 +131,104 @@ impl Listing<'_> {
             return self.push(line);
         }
         let mut comment = user_comment(line);
-        for row in items.chunk_by(|(_, one), (_, other)| one == other) {
-            let calls = if row.len() < items.len() {
-                calls_of(row)
-            } else {
-                None
+        for alike in items.chunk_by(|(_, one), (_, other)| one == other) {
+            let is_part = alike.len() < items.len();
+            let (line_of_row, answer) = alike[0];
+            let row = Row {
+                line: line_of_row,
+                is_profile,
+                calls: if is_part { calls_of(alike) } else { None },
+                answer,
             };
-            let mark = self.judge(row[0], calls.as_deref(), is_profile);
-            let content = Written::new(line).content.trim_end();
-            let content = match &calls {
-                Some(calls) => with_calls(content, calls),
-                None => content.to_string(),
-            };
-            let text = self.row(content, row[0].1, mark.as_deref(), comment.take());
-            self.push(&text);
+            if row.differs() {
+                let message = row.difference(self.ended);
+                self.differences
+                    .push(at(self.name, row.line.number, &message));
+            }
+            let content = row.content(Written::new(line).content.trim_end());
+            self.push_row(content, &row, comment.take());
         }
-    }
-
-    /// The mark for a row, if it needs one; a difference is noted.
-    fn judge(&mut self, row: Answered, calls: Option<&str>, is_profile: bool) -> Option<String> {
-        let (line, answer) = row;
-        let expected = line.expected.as_deref();
-        if expected == answer || (expected.is_none() && !is_profile) {
-            let is_missing = answer.is_none() && !is_profile;
-            return is_missing.then(|| format!("{NO_ANSWER}{ENDED}"));
-        }
-        let expected = expected.unwrap_or("no refusal");
-        let (answered, why) = match answer {
-            Some(answer) => (answer.to_string(), String::new()),
-            None if is_profile => (
-                "nothing: the profile is accepted".to_string(),
-                String::new(),
-            ),
-            None => (
-                format!("nothing: {ENDED} in line {}", self.ended),
-                format!("; {ENDED}"),
-            ),
-        };
-        let calls = calls.map_or(String::new(), |calls| format!("call {calls}: "));
-        let message = format!("{calls}expected {expected}, answered {answered}");
-        self.differences.push(at(self.name, line.number, &message));
-        Some(format!("{DIFFERS}{expected}{why}"))
     }
 
     /// The parts of a row, each in its column.
-    fn row(
-        &self,
-        mut row: String,
-        answer: Option<&str>,
-        mark: Option<&str>,
-        comment: Option<(usize, &str)>,
-    ) -> String {
-        if let Some(answer) = answer {
-            let gap = self.column.saturating_sub(width(&row)).max(1);
-            row += &format!("{:gap$}-> {answer}", "");
+    fn push_row(&mut self, content: String, row: &Row, comment: Option<(usize, &str)>) {
+        let mut text = content;
+        if let Some(answer) = row.answer {
+            text += &blanks(self.column.saturating_sub(width(&text)).max(1));
+            text += &format!("-> {answer}");
         }
-        if let Some(mark) = mark {
-            row += &format!("{:BEFORE_COMMENT$}{mark}", "");
+        if let Some(mark) = row.mark() {
+            text += &blanks(BEFORE_COMMENT);
+            text += &mark;
         }
         if let Some((column, comment)) = comment {
-            let gap = match column.checked_sub(width(&row)) {
-                None | Some(0) => BEFORE_COMMENT,
-                Some(gap) => gap,
-            };
-            row += &format!("{:gap$}{comment}", "");
+            let gap = column.saturating_sub(width(&text));
+            text += &blanks(if gap > 0 { gap } else { BEFORE_COMMENT });
+            text += comment;
         }
-        row
+        self.push(&text);
+    }
+}
+
+fn blanks(count: usize) -> String {
+    " ".repeat(count)
+}
+
+/// Items of one line with the same answer.
+struct Row<'a> {
+    line: &'a Line,
+    is_profile: bool,
+    /// Their calls, where they are a part of the line's range.
+    calls: Option<String>,
+    answer: Option<&'a str>,
+}
+
+impl Row<'_> {
+    /// A line without `->` expects nothing; but a profile without it is expected
+    /// to be accepted.
+    fn differs(&self) -> bool {
+        let expected = self.line.expected.as_deref();
+        expected != self.answer && (expected.is_some() || self.is_profile)
+    }
+
+    fn has_ended(&self) -> bool {
+        self.answer.is_none() && !self.is_profile
+    }
+
+    fn expected(&self) -> &str {
+        self.line.expected.as_deref().unwrap_or("no refusal")
+    }
+
+    fn mark(&self) -> Option<String> {
+        match (self.differs(), self.has_ended()) {
+            (true, true) => Some(format!("{DIFFERS}{}; {ENDED}", self.expected())),
+            (true, false) => Some(format!("{DIFFERS}{}", self.expected())),
+            (false, true) => Some(format!("{NO_ANSWER}{ENDED}")),
+            (false, false) => None,
+        }
+    }
+
+    /// The message about the difference; the listing may have ended before.
+    fn difference(&self, ended: usize) -> String {
+        let answered = match self.answer {
+            Some(answer) => answer.to_string(),
+            None if self.is_profile => "nothing: the profile is accepted".to_string(),
+            None => format!("nothing: {ENDED} in line {ended}"),
+        };
+        let message = format!("expected {}, answered {answered}", self.expected());
+        match &self.calls {
+            Some(calls) => format!("call {calls}: {message}"),
+            None => message,
+        }
+    }
+
+    /// What the line says, of the row's calls alone. The calls are the third
+    /// word, and the first in which `..` can stand.
+    fn content(&self, whole: &str) -> String {
+        match (&self.calls, whole.split_whitespace().nth(2)) {
+            (Some(calls), Some(range)) => whole.replacen(range, calls, 1),
+            _ => whole.to_string(),
+        }
     }
 }
 
@@ -222,13 +252,4 @@ fn calls_of(row: &[Answered]) -> Option<String> {
         true => first.to_string(),
         false => format!("{first}..{last}"),
     })
-}
-
-/// The content of a line with a part of its range. The calls are the third
-/// word, and the first in which `..` can stand.
-fn with_calls(content: &str, calls: &str) -> String {
-    match content.split_whitespace().nth(2) {
-        Some(range) => content.replacen(range, calls, 1),
-        None => content.to_string(),
-    }
 }
