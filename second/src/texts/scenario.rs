@@ -231,10 +231,14 @@ fn no_line(words: &[&str], first: bool) -> String {
 
 /// One call, or the first and the last of several.
 fn read_calls(word: &str) -> Result<RangeInclusive<u32>, String> {
+    const RANGE: &str = "a range that rises, such as 1..64";
     let (first, last) = word.split_once("..").unwrap_or((word, word));
+    if first.is_empty() || last.is_empty() {
+        return Err(expected("calls", word, RANGE));
+    }
     let (first, last) = (CALL.number(first)?, CALL.number(last)?);
     if first > last {
-        return Err(expected("calls", word, "a range that rises, such as 1..64"));
+        return Err(expected("calls", word, RANGE));
     }
     if last - first >= MOST_CALLS {
         let most = format!("at most {MOST_CALLS} calls in a line");
