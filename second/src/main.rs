@@ -37,9 +37,9 @@ Scenarios as text: a profile and items in words (src/texts/mod.rs shows one)
                                  bytes that a listing program reads
   second explain < BYTES         makes text of such bytes; what is malformed
                                  comes out as a line of bytes in hex
-  second list PROGRAM FILE...    runs the listing program PROGRAM on scenarios,
-                                 and prints them with its answers; what was
-                                 written as expected there has to be answered
+  second list PROGRAM FILE...    prints scenarios with the answers that the
+                                 listing program PROGRAM gives; where the text
+                                 expects others, the line is marked
   second check PROGRAM FILE...   runs the listing program PROGRAM and this one
                                  on scenarios, and holds both to the answers
                                  that stand in the text
