@@ -4,38 +4,24 @@
 //! as they land), in the most direct way, and run beside the proved program:
 //! where the two differ, the papers decide.
 
-// What the papers say.
-mod answer;
-mod call;
-mod feeder;
-mod forms;
-mod listing;
-mod record;
-mod table;
-mod trigger;
+#[macro_use]
+mod output;
 
-// The commands that test and measure.
 mod bench;
-mod check;
-mod chunks;
 mod compare;
-mod compare_chunks;
-mod compare_tables;
-mod compare_triggers;
-mod counts;
-mod coverage;
-mod generate;
-mod program;
-mod random;
-mod rounds;
-mod tables;
+mod paper;
 #[cfg(test)]
 mod tests;
-mod text;
-mod triggers;
+mod texts;
 
+use bench::measure;
+use compare::{
+    check, chunks, compare_chunks, compare_listings, compare_tables, compare_triggers, coverage,
+    generate, list, tables, triggers,
+};
+use paper::listing;
 use std::env;
-use std::io::{self, BufReader, Read, Write};
+use std::io::{self, BufReader, Read};
 use std::process::ExitCode;
 
 const USAGE: &str = "\
@@ -46,11 +32,14 @@ The program of document 01
   second listing < BYTES         reads a profile and items, and lists an answer
                                  to each item
 
-Scenarios as text: a profile and items in words (src/text.rs shows an example)
+Scenarios as text: a profile and items in words (src/texts/mod.rs shows one)
   second assemble [FILE] > BYTES makes of the text (FILE or standard input) the
                                  bytes that a listing program reads
   second explain < BYTES         makes text of such bytes; what is malformed
                                  comes out as a line of bytes in hex
+  second list PROGRAM FILE...    prints scenarios with the answers that the
+                                 listing program PROGRAM gives; where the text
+                                 expects others, the line is marked
   second check PROGRAM FILE...   runs the listing program PROGRAM and this one
                                  on scenarios, and holds both to the answers
                                  that stand in the text
@@ -65,14 +54,14 @@ Random scenarios; the same SEED (1 if left out) gives the same ones
                                  random pieces, and compares the listings;
                                  prints the coverage too
 
-Tables handed in whole, sound ones and damaged ones (src/tables.rs has the form)
+Tables handed in whole, sound and damaged (src/compare/tables.rs has the form)
   second tables < CASES          answers cases, each a table with one item, and
                                  gives each table as it is afterwards
   second compare-tables PROGRAM COUNT [SEED]
                                  runs PROGRAM, which does the same, and this one
                                  on COUNT random cases, and compares
 
-Items that arrive in bits (src/chunks.rs has the form)
+Items that arrive in bits (src/compare/chunks.rs has the form)
   second chunks < CASES          answers cases, each a feeder handed in with
                                  chunks and resets
   second compare-chunks PROGRAM COUNT [SEED]
@@ -81,7 +70,7 @@ Items that arrive in bits (src/chunks.rs has the form)
                                  compares; and holds this program's feeder to
                                  T-02's sentence about cuts
 
-Trigger checks, over and over (src/triggers.rs says what one is)
+Trigger checks, over and over (src/compare/triggers.rs says what one is)
   second check-triggers < BYTES  checks Setups against a profile's stored
                                  numbers, over and over: reads 1 byte (2: the
                                  last digit first, 3: from the front), 4 bytes
@@ -118,8 +107,8 @@ fn main() -> ExitCode {
         Ok(true) => ExitCode::SUCCESS,
         Ok(false) => ExitCode::FAILURE,
         Err(error) => {
-            eprintln!("{error}");
-            ExitCode::FAILURE
+            output::complain(error);
+            ExitCode::from(output::ERROR)
         }
     }
 }
@@ -128,26 +117,24 @@ fn main() -> ExitCode {
 /// not reached.
 fn run(words: &[&str]) -> Result<bool, String> {
     match words {
-        ["help" | "--help"] => write_output(format!("{USAGE}\n").as_bytes())?,
-        ["listing"] => list().map_err(|error| error.to_string())?,
-        ["assemble"] => {
-            let text = io::read_to_string(io::stdin()).map_err(|error| error.to_string())?;
-            write_output(&text::bytes_of(&text::assemble(&text)?))?
-        }
-        ["assemble", file] => write_output(&text::bytes_of(&text::assemble_file(file)?))?,
-        ["explain"] => write_output(text::explain(&read_input()?).as_bytes())?,
+        ["help" | "--help"] => output::write(format!("{USAGE}\n").as_bytes())?,
+        ["listing"] => run_listing().map_err(|error| format!("listing: {error}"))?,
+        ["assemble"] => output::write(&texts::bytes_of(&texts::assemble_input()?))?,
+        ["assemble", file] => output::write(&texts::bytes_of(&texts::assemble_file(file)?))?,
+        ["explain"] => output::write(texts::explain(&read_input()?).as_bytes())?,
         ["check", program, files @ ..] if !files.is_empty() => return check::run(program, files),
-        ["generate", seed] => write_output(&generate::scenario(number(seed)?))?,
+        ["list", program, files @ ..] if !files.is_empty() => return list::run(program, files),
+        ["generate", seed] => output::write(&generate::scenario(number(seed)?))?,
         ["coverage"] => return Ok(coverage::run(20_000, 1)),
         ["coverage", count, seed @ ..] => return Ok(coverage::run(number(count)?, first(seed)?)),
         ["compare", program, count, seed @ ..] => {
-            return compare::run(program, number(count)?, first(seed)?)
+            return compare_listings::run(program, number(count)?, first(seed)?)
         }
-        ["tables"] => write_output(&tables::run(&read_input()?)?)?,
+        ["tables"] => output::write(&tables::run(&read_input()?)?)?,
         ["compare-tables", program, count, seed @ ..] => {
             return compare_tables::run(program, number(count)?, first(seed)?)
         }
-        ["chunks"] => write_output(&chunks::run(&read_input()?))?,
+        ["chunks"] => output::write(&chunks::run(&read_input()?))?,
         ["compare-chunks", program, count, seed @ ..] => {
             return compare_chunks::run(program, number(count)?, first(seed)?)
         }
@@ -155,8 +142,8 @@ fn run(words: &[&str]) -> Result<bool, String> {
         ["compare-triggers", program, count, seed @ ..] => {
             return compare_triggers::run(program, number(count)?, first(seed)?)
         }
-        ["feed-items"] => println!("{}", bench::feed_items(&read_input()?)?),
-        ["bench-input", open @ ("1" | "32" | "64"), items] => write_output(&bench::input(
+        ["feed-items"] => println!("{}", measure::feed_items(&read_input()?)?),
+        ["bench-input", open @ ("1" | "32" | "64"), items] => output::write(&measure::input(
             number(open)? as u32,
             number(items)? as usize,
         )?)?,
@@ -167,14 +154,14 @@ fn run(words: &[&str]) -> Result<bool, String> {
     Ok(true)
 }
 
-fn list() -> io::Result<()> {
+fn run_listing() -> io::Result<()> {
     let mut input = BufReader::with_capacity(listing::BUFFER, io::stdin().lock());
     let mut output = io::stdout().lock();
     listing::run(&mut input, &mut output)
 }
 
 fn measure(listing: &str, program: &str, quick: bool) -> Result<(), String> {
-    bench::run(listing, program, quick).map_err(|error| error.to_string())
+    measure::run(listing, program, quick).map_err(|error| error.to_string())
 }
 
 /// The first seed, which may be left out.
@@ -195,9 +182,4 @@ fn read_input() -> Result<Vec<u8>, String> {
     let read = io::stdin().lock().read_to_end(&mut bytes);
     read.map_err(|error| error.to_string())?;
     Ok(bytes)
-}
-
-fn write_output(bytes: &[u8]) -> Result<(), String> {
-    let written = io::stdout().lock().write_all(bytes);
-    written.map_err(|error| error.to_string())
 }

@@ -2,7 +2,7 @@
 //!
 //! Document 01, section "Triggering (004)"; document 02, T-03.
 
-use crate::forms::{Number, Profile, Sense, Setup};
+use crate::paper::forms::{Number, Profile, Sense, Setup};
 
 /// All present criteria must hold.
 pub fn triggers(profile: &Profile, setup: &Setup) -> bool {

@@ -3,14 +3,14 @@
 //! Purely random items are mostly refused. So this program's own engine runs
 //! along, and an item is mostly one that is possible now.
 
-use crate::answer::{Accepted, Answer, Refusal};
-use crate::call;
-use crate::forms::{
+use crate::compare::random::Random;
+use crate::paper::answer::{Accepted, Answer, Refusal};
+use crate::paper::call;
+use crate::paper::forms::{
     kind, read_item, read_profile, with_length_and_version, write_item, Body, TIME_END,
 };
-use crate::random::Random;
-use crate::record::{Point, Record, Relationship};
-use crate::table::{self, Entry, ENTRIES};
+use crate::paper::record::{Point, Record, Relationship};
+use crate::paper::table::{self, Entry, ENTRIES};
 
 /// The kinds of items, and how often each is tried.
 const KINDS: [(u8, u64); 17] = [

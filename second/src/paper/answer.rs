@@ -3,8 +3,8 @@
 //! Document 01, sections "A call by itself" (what an answer is) and "Numbered
 //! refusals".
 
-use crate::forms::Tenths;
-use crate::record::{Mode, Point, Relationship};
+use crate::paper::forms::Tenths;
+use crate::paper::record::{Mode, Point, Relationship};
 
 pub type Answer = Result<Accepted, Refusal>;
 

@@ -5,7 +5,7 @@
 //! take, big-endian), a profile, and the items. They are taken in their order,
 //! and after the last one the first again.
 
-use crate::listing::frames;
+use crate::paper::listing::frames;
 
 const LONGEST_INPUT: usize = 65536;
 

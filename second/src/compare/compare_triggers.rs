@@ -7,14 +7,16 @@
 //!
 //! Document 02, T-03.
 
-use crate::counts::Counts;
-use crate::forms::{kind, with_length_and_version, write_item, Number, TIME_END};
-use crate::program;
-use crate::random::Random;
-use crate::rounds::{self, Rounds};
-use crate::text;
-use crate::trigger::{compare, compare_from_front, Compared};
-use crate::triggers::{self, Checks, DIALLED_WITH_LONG_LIST, FROM_FRONT, LAST_FIRST, LONG_LIST};
+use crate::bench::rounds::{self, Rounds};
+use crate::compare::counts::Counts;
+use crate::compare::program;
+use crate::compare::random::Random;
+use crate::compare::triggers::{
+    self, Checks, DIALLED_WITH_LONG_LIST, FROM_FRONT, LAST_FIRST, LONG_LIST,
+};
+use crate::paper::forms::{kind, with_length_and_version, write_item, Number, TIME_END};
+use crate::paper::trigger::{compare, compare_from_front, Compared};
+use crate::texts;
 
 /// The stored number of P6, and what is dialled.
 const P6: &str = "profile continue 120 enabling 4/491";
@@ -228,7 +230,7 @@ pub fn run(program: &str, count: u64, seed: u64) -> Result<bool, String> {
         if let Some(difference) = found.map_err(|error| format!("case {number}: {error}"))? {
             differences += 1;
             if differences == 1 {
-                let (checks, round) = (case.checks, text::explain(&case.round));
+                let (checks, round) = (case.checks, texts::explain(&case.round));
                 println!("the first difference, case {number}, {checks} checks:");
                 println!("{round}{difference}");
             }

@@ -3,7 +3,7 @@
 //! Document 01, section "One call": the fields, the armable points, the
 //! relationship. What is in range of them is in `table.rs`.
 
-use crate::forms::{Handling, Leg, Number, Seconds, Tenths};
+use crate::paper::forms::{Handling, Leg, Number, Seconds, Tenths};
 
 #[derive(Clone, Copy, PartialEq, Eq, Debug)]
 pub enum Stage {

@@ -3,16 +3,16 @@
 //!
 //! Document 01, section "The call table", and row 3 of "Numbered refusals".
 
-use crate::answer::Answer;
-use crate::counts::Counts;
-use crate::forms::{kind, read_item, Handling, Leg, Seconds, Tenths, TIME_END};
-use crate::generate::Generator;
-use crate::program;
-use crate::random::Random;
-use crate::record::{Armings, CalledNumber, Charge, Mode, Point, Record, Stage};
-use crate::table::{self, Entry, ENTRIES};
-use crate::tables::{self, read_entry, Case, ENTRY_BYTES};
-use crate::text;
+use crate::compare::counts::Counts;
+use crate::compare::generate::Generator;
+use crate::compare::program;
+use crate::compare::random::Random;
+use crate::compare::tables::{self, read_entry, Case, ENTRY_BYTES};
+use crate::paper::answer::Answer;
+use crate::paper::forms::{kind, read_item, Handling, Leg, Seconds, Tenths, TIME_END};
+use crate::paper::record::{Armings, CalledNumber, Charge, Mode, Point, Record, Stage};
+use crate::paper::table::{self, Entry, ENTRIES};
+use crate::texts;
 use std::io::{self, BufRead, BufReader, BufWriter, Read, Write};
 use std::process::ChildStdin;
 
@@ -395,8 +395,8 @@ fn difference(before: &[Entry], case: &Case, theirs: &[u8], ours: &[u8]) -> Stri
     let slot = (0..before.len()).find(differs).or_else(slot_of_call);
     let mut text = format!(
         "{}\n{}\n  theirs: {their_line}\n  ours:   {our_line}\n  {} entries",
-        text::explain_profile(&case.profile),
-        text::explain_item(&case.item),
+        texts::explain_profile(&case.profile),
+        texts::explain_item(&case.item),
         before.len()
     );
     if let Some(slot) = slot {

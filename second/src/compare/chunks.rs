@@ -24,9 +24,9 @@
 //! reset 3 left 0
 //! ```
 
-use crate::answer::Refusal;
-use crate::feeder::{Fed, Feeder, ROOM};
-use crate::forms::Reader;
+use crate::paper::answer::Refusal;
+use crate::paper::feeder::{Fed, Feeder, ROOM};
+use crate::paper::forms::Reader;
 use std::fmt::Write;
 
 /// The step number of a reset.

@@ -2,8 +2,8 @@
 //!
 //! Document 02, T-02.
 
-use crate::answer::Refusal;
-use crate::forms::{read_item, Item, ITEM_LENGTHS};
+use crate::paper::answer::Refusal;
+use crate::paper::forms::{read_item, Item, ITEM_LENGTHS};
 
 /// An item begins with its length field.
 const LENGTH_BYTES: usize = 2;

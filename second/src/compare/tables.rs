@@ -5,11 +5,11 @@
 //! each), the length of a profile (1), the profile, and an item. The answer is
 //! a line of the listing and then the entries as they are afterwards.
 
-use crate::answer::Answer;
-use crate::forms::{Handling, Reader, Seconds, Tenths};
-use crate::listing;
-use crate::record::{Armings, CalledNumber, Charge, Mode, Point, Record, Stage};
-use crate::table::{self, Entry};
+use crate::paper::answer::Answer;
+use crate::paper::forms::{Handling, Reader, Seconds, Tenths};
+use crate::paper::listing;
+use crate::paper::record::{Armings, CalledNumber, Charge, Mode, Point, Record, Stage};
+use crate::paper::table::{self, Entry};
 
 pub const ENTRY_BYTES: usize = 87;
 

@@ -1,15 +1,15 @@
 //! Which forms of document 01 the generated scenarios reach, counted from this
 //! program's own answers.
 
-use crate::answer::Accepted;
-use crate::call::{occurs_at, point_met};
-use crate::counts::Counts;
-use crate::forms::{read_item, read_profile, Body, Other};
-use crate::generate;
-use crate::listing::frames;
-use crate::record::{Mode, Point, Record, Relationship, Stage};
-use crate::table;
-use crate::text;
+use crate::compare::counts::Counts;
+use crate::compare::generate;
+use crate::paper::answer::Accepted;
+use crate::paper::call::{occurs_at, point_met};
+use crate::paper::forms::{read_item, read_profile, Body, Other};
+use crate::paper::listing::frames;
+use crate::paper::record::{Mode, Point, Record, Relationship, Stage};
+use crate::paper::table;
+use crate::texts;
 
 const MODES: [Option<Mode>; 3] = [None, Some(Mode::Interrupted), Some(Mode::Notify)];
 const OPERATIONS: [&str; 7] = [
@@ -177,9 +177,7 @@ fn count_role(counts: &mut Counts, before: &Record, body: &Body) {
             counts.count(event_form(point, mode, stage, before.hold.is_some()));
         }
         Body::Other(Other::Operation(operation)) => {
-            let text = text::operation_text(operation);
-            let name = text.split(' ').next().unwrap_or_default();
-            counts.count(operation_form(name, stage));
+            counts.count(operation_form(texts::operation_name(operation), stage));
         }
         Body::Other(Other::PeriodOver(_)) | Body::Setup(_) => {}
     }

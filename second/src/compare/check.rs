@@ -1,17 +1,17 @@
 //! Scenarios with their expected answers in the text, held against the
 //! listing program and against this one.
 
-use crate::listing;
-use crate::program;
-use crate::text::{self, Line};
+use crate::compare::program;
+use crate::paper::listing;
+use crate::texts::{self, Line};
 
 /// Checks all the files; true if every program says what the texts say.
 pub fn run(program: &str, files: &[&str]) -> Result<bool, String> {
     let mut items = 0;
     let mut differences = 0;
     for file in files {
-        let lines = text::assemble_file(file)?;
-        let input = text::bytes_of(&lines);
+        let lines = texts::assemble_file(file)?;
+        let input = texts::bytes_of(&lines);
         let theirs = program::output_of(program, &input)?;
         let ours = listing::of(&input);
         let theirs = String::from_utf8_lossy(&theirs);

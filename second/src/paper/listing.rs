@@ -2,11 +2,11 @@
 //!
 //! Document 01, section "The listing program".
 
-use crate::answer::{Accepted, Answer, Refusal};
-use crate::feeder::{Fed, Feeder};
-use crate::forms::{read_profile, Leg, PROFILE_LENGTHS};
-use crate::record::Relationship;
-use crate::table;
+use crate::paper::answer::{Accepted, Answer, Refusal};
+use crate::paper::feeder::{Fed, Feeder};
+use crate::paper::forms::{read_profile, Leg, PROFILE_LENGTHS};
+use crate::paper::record::Relationship;
+use crate::paper::table;
 use std::io::{self, BufRead, Read, Write};
 
 /// The size of the buffers for input and output.

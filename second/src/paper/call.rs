@@ -3,13 +3,15 @@
 //! Document 01, sections "One call" and "A call by itself", and the rows 7 to
 //! 14 of "Numbered refusals".
 
-use crate::answer::{Accepted, Answer, Refusal};
-use crate::forms::{
+use crate::paper::answer::{Accepted, Answer, Refusal};
+use crate::paper::forms::{
     Entries, Entry, Event, Handling, Leg, Operation, Other, Profile, Seconds, Setup, Tenths,
     LONGEST_TIMER,
 };
-use crate::record::{Armings, CalledNumber, Charge, Mode, Point, Record, Relationship, Stage};
-use crate::trigger::triggers;
+use crate::paper::record::{
+    Armings, CalledNumber, Charge, Mode, Point, Record, Relationship, Stage,
+};
+use crate::paper::trigger::triggers;
 
 /// The first record of a call, and the answer to its Setup.
 pub fn set_up(setup: &Setup, time: Tenths, profile: &Profile) -> (Record, Accepted) {

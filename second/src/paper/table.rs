@@ -3,13 +3,13 @@
 //! Document 01, section "The call table", and the rows 1 to 6 of "Numbered
 //! refusals".
 
-use crate::answer::{Answer, Refusal};
-use crate::call;
-use crate::forms::{
+use crate::paper::answer::{Answer, Refusal};
+use crate::paper::call;
+use crate::paper::forms::{
     read_item, read_profile, Body, Item, Other, Profile, Setup, Tenths, DEFAULT_TIMERS, DIGITS,
     DIGIT_COUNTS, LONGEST_TIMER, NATURES, PERIODS, TIME_END,
 };
-use crate::record::{CalledNumber, Charge, Mode, Point, Record};
+use crate::paper::record::{CalledNumber, Charge, Mode, Point, Record};
 
 pub const ENTRIES: usize = 64;
 
