@@ -5,6 +5,7 @@
 //! where the two differ, the papers decide.
 
 mod bench;
+mod chart;
 mod compare;
 mod paper;
 #[cfg(test)]
@@ -38,6 +39,9 @@ Scenarios as text: a profile and items in words (src/texts/text.rs shows one)
   second check PROGRAM FILE...   runs the listing program PROGRAM and this one
                                  on scenarios, and holds both to the answers
                                  that stand in the text
+  second chart PROGRAM FILE > SVG
+                                 draws a scenario with the answers of the
+                                 listing program PROGRAM as a ladder diagram
 
 Random scenarios; the same SEED (1 if left out) gives the same ones
   second generate SEED > BYTES   writes one scenario
@@ -121,6 +125,10 @@ fn run(words: &[&str]) -> Result<bool, String> {
         ["assemble", file] => write_output(&text::bytes_of(&text::assemble_file(file)?))?,
         ["explain"] => write_output(text::explain(&read_input()?).as_bytes())?,
         ["check", program, files @ ..] if !files.is_empty() => return check::run(program, files),
+        ["chart", program, file] => match chart::run(program, file)? {
+            Some(picture) => write_output(picture.as_bytes())?,
+            None => return Ok(false),
+        },
         ["generate", seed] => write_output(&generate::scenario(number(seed)?))?,
         ["coverage"] => return Ok(coverage::run(20_000, 1)),
         ["coverage", count, seed @ ..] => return Ok(coverage::run(number(count)?, first(seed)?)),

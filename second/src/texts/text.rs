@@ -430,6 +430,6 @@ fn number_text(number: &Number) -> String {
     format!("{}/{digits}", number.nature)
 }
 
-fn digit_character(digit: u8) -> char {
+pub fn digit_character(digit: u8) -> char {
     DIGIT_CHARACTERS.as_bytes()[usize::from(digit)].into()
 }

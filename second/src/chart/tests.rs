@@ -1,0 +1,1 @@
+//! What is drawn of some scenarios.
