@@ -21,9 +21,9 @@ const LINE: i32 = 16;
 const GAPS: [i32; 3] = [190, 290, 190];
 /// A label keeps off the lifelines.
 const LABEL_MARGIN: i32 = 12;
-/// Outside of the outer lifelines stand a charge's strip and its words.
-const LEFT_OF_CALLER: i32 = 156;
-const RIGHT_OF_CALLED: i32 = 136;
+/// Outside of an outer lifeline: half a head, or a charge's strip and its words.
+const OUTER: i32 = 76;
+const OUTER_WITH_STRIP: i32 = 136;
 const STRIP_WIDTH: i32 = 12;
 const STRIP_DISTANCE: i32 = 12;
 /// The room for the words beside it.
@@ -55,7 +55,11 @@ impl Columns {
         let numbers = rows().map(number).fold(SMALL.width("item"), i32::max);
         let times = rows().map(time).fold(SMALL.width("h:min:s"), i32::max);
         let time = MARGIN + numbers + 12 + times;
-        let caller = time + LEFT_OF_CALLER;
+        let [left, right] = Leg::BOTH.map(|leg| outer(chart, leg));
+        // A pause is named beside everything that it breaks.
+        let pause = |row: &Row| Some(SMALL.width(&pause_text(row.pause?)));
+        let pauses = rows().filter_map(pause).fold(0, i32::max);
+        let caller = (time + 14 + left).max(MARGIN + pauses + 48);
         let [first, second, third] = GAPS;
         let switch = caller + first;
         let service_node = switch + second;
@@ -63,7 +67,7 @@ impl Columns {
         Columns {
             time,
             parties: [caller, switch, service_node, called],
-            width: called + RIGHT_OF_CALLED + MARGIN,
+            width: called + right + MARGIN,
         }
     }
 
@@ -82,6 +86,15 @@ impl Columns {
             _ => (switch, service_node),
         };
         (left + LABEL_MARGIN, right - LABEL_MARGIN)
+    }
+}
+
+/// The room outside of the lifeline of a leg's party.
+fn outer(chart: &Chart, leg: Leg) -> i32 {
+    let mut charges = chart.ladders.iter().flat_map(|ladder| &ladder.charges);
+    match charges.any(|charge| charge.leg == leg) {
+        true => OUTER_WITH_STRIP,
+        false => OUTER,
     }
 }
 
@@ -152,10 +165,11 @@ fn draw_header(svg: &mut Svg, columns: &Columns, chart: &Chart, top: i32) -> i32
 fn notes(chart: &Chart) -> Vec<String> {
     let mut notes = Vec::new();
     if let Some(end) = &chart.end {
+        let number = end.number;
         let cause = match end.cause {
-            Cause::Profile => "The listing ends with the profile, which is malformed",
-            Cause::Length => "The listing ends with the last item, whose length is none of an item",
-            Cause::CutShort => "The listing ends with the last item, which is cut short",
+            Cause::Profile => "The listing ends with the profile".to_string(),
+            Cause::Length => format!("The listing ends with item {number}: none is of its length"),
+            Cause::CutShort => format!("The listing ends with item {number}, which is cut short"),
         };
         notes.push(match end.unread {
             0 => format!("{cause}."),
@@ -537,8 +551,7 @@ impl Drawing<'_> {
         ] {
             draw_break(svg, left - HALF, right + HALF, y);
         }
-        let text = format!("{} later", words::duration(length));
-        svg.text(&SMALL, Anchor::Start, (MARGIN, y + 4), &text);
+        svg.text(&SMALL, Anchor::Start, (MARGIN, y + 4), &pause_text(length));
     }
 
     fn is_charged_at(&self, leg: Leg, y: i32) -> bool {
@@ -621,6 +634,10 @@ impl Drawing<'_> {
         svg.line("end", (caller, y), (called, y));
         draw_badge(svg, "over-box", &OVER, (switch, y), "call over");
     }
+}
+
+fn pause_text(length: Tenths) -> String {
+    format!("{} later", words::duration(length))
 }
 
 fn relationship_line(relationship: Relationship) -> &'static str {
@@ -707,11 +724,11 @@ fn draw_legend(svg: &mut Svg, columns: &Columns, top: i32) -> i32 {
     const SAMPLES: [(Sample, &str); 10] = [
         (
             |svg, spot| sample_arrow(svg, Form::Full, spot),
-            "event, operation, routing, or a report (one that interrupts, or of a charge)",
+            "event, operation, routing, or report",
         ),
         (
             |svg, spot| sample_arrow(svg, Form::Notification, spot),
-            "a report that notifies: the call goes on",
+            "report that only notifies: the call goes on",
         ),
         (
             |svg, spot| sample_arrow(svg, Form::Refused, spot),

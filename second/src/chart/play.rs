@@ -6,6 +6,8 @@ use crate::paper::listing::frames;
 use crate::paper::record::Record;
 use crate::paper::table;
 use crate::texts::text::{self, Line};
+use std::iter::Peekable;
+use std::vec::IntoIter;
 
 pub struct Scenario {
     /// The first comment of the text, if it stands before the items.
@@ -35,8 +37,10 @@ pub struct Step {
     pub record: Option<Record>,
 }
 
-/// What the listing ends with, and how many lines of the text it has not read.
+/// The item that the listing ends with (0 for the profile), and how many lines
+/// of the text it has not read.
 pub struct End {
+    pub number: usize,
     pub cause: Cause,
     pub unread: usize,
 }
@@ -60,7 +64,8 @@ impl Scenario {
             Some((profile, items)) => (*profile, items),
             None => (&[][..], &[][..]),
         };
-        let mut comments = Comments::of(source);
+        let source: Vec<&str> = source.lines().collect();
+        let mut comments = Comments::of(&source);
         let first_item = lines.get(1).map_or(usize::MAX, |line| line.number);
         let mut scenario = Scenario {
             title: comments.before(first_item),
@@ -70,6 +75,7 @@ impl Scenario {
         };
         if read_profile(profile).is_none() {
             scenario.end = Some(End {
+                number: 0,
                 cause: Cause::Profile,
                 unread: lines.len().saturating_sub(1),
             });
@@ -93,12 +99,15 @@ impl Scenario {
                 comment: comments.before(place.line()),
                 call,
                 bytes: item.to_vec(),
-                words: words_of(source, place.line()),
+                words: words_of(source[place.line() - 1]),
                 answer,
                 record: table.iter().find(is_calls).map(|entry| entry.record),
             });
-            let unread = lines.len() - place.index - 1;
-            scenario.end = ends_listing(item).map(|cause| End { cause, unread });
+            scenario.end = ends_listing(item).map(|cause| End {
+                number: index + 1,
+                cause,
+                unread: lines.len() - place.index - 1,
+            });
             place.offset += item.len();
         }
         scenario
@@ -155,9 +164,8 @@ fn ends_listing(item: &[u8]) -> Option<Cause> {
     }
 }
 
-/// What stands in the line after `call` and its number.
-fn words_of(source: &str, line: usize) -> String {
-    let line = source.lines().nth(line - 1).unwrap_or("");
+/// What stands in a line after `call` and its number.
+fn words_of(line: &str) -> String {
     let content = line.split("--").next().unwrap_or("");
     let content = content.split("->").next().unwrap_or("");
     let words: Vec<&str> = content.split_whitespace().skip(3).collect();
@@ -166,25 +174,28 @@ fn words_of(source: &str, line: usize) -> String {
 
 /// The comments that have lines of their own, each with the number of its line.
 struct Comments {
-    left: Vec<(usize, String)>,
+    left: Peekable<IntoIter<(usize, String)>>,
 }
 
 impl Comments {
-    fn of(source: &str) -> Comments {
-        let comment = |(place, line): (usize, &str)| {
+    fn of(source: &[&str]) -> Comments {
+        let comment = |(place, line): (usize, &&str)| {
             let comment = line.trim().strip_prefix("--")?;
             let comment = comment.trim_matches(|c: char| c == '-' || c.is_whitespace());
             (!comment.is_empty()).then(|| (place + 1, comment.to_string()))
         };
+        let comments: Vec<_> = source.iter().enumerate().filter_map(comment).collect();
         Comments {
-            left: source.lines().enumerate().filter_map(comment).collect(),
+            left: comments.into_iter().peekable(),
         }
     }
 
     /// Takes what stands before the line.
     fn before(&mut self, line: usize) -> Option<String> {
-        let count = self.left.partition_point(|(number, _)| *number < line);
-        let taken: Vec<String> = self.left.drain(..count).map(|(_, text)| text).collect();
+        let mut taken = Vec::new();
+        while let Some((_, comment)) = self.left.next_if(|(number, _)| *number < line) {
+            taken.push(comment);
+        }
         (!taken.is_empty()).then(|| taken.join(" "))
     }
 }

@@ -138,7 +138,8 @@ fn entry(entry: &Entry) -> String {
 
 /// An item that is malformed, in the text's own words.
 pub fn malformed(words: &str) -> Label {
-    Label::new("Malformed:", vec![words.to_string()])
+    let (name, detail) = words.split_once(' ').unwrap_or((words, ""));
+    Label::new(name, vec![detail.to_string()])
 }
 
 pub fn event_report(point: Point, mode: Mode) -> Label {
