@@ -21,7 +21,6 @@ use paper::listing;
 use std::env;
 use std::io::{self, BufReader, Read, Write};
 use std::process::ExitCode;
-use texts::text;
 
 const USAGE: &str = "\
 second: the second program, written from the papers alone, to be run beside the
@@ -31,7 +30,7 @@ The program of document 01
   second listing < BYTES         reads a profile and items, and lists an answer
                                  to each item
 
-Scenarios as text: a profile and items in words (src/texts/text.rs shows one)
+Scenarios as text: a profile and items in words (src/texts/mod.rs shows one)
   second assemble [FILE] > BYTES makes of the text (FILE or standard input) the
                                  bytes that a listing program reads
   second explain < BYTES         makes text of such bytes; what is malformed
@@ -107,7 +106,7 @@ fn main() -> ExitCode {
         Ok(false) => ExitCode::FAILURE,
         Err(error) => {
             eprintln!("{error}");
-            ExitCode::FAILURE
+            ExitCode::from(2)
         }
     }
 }
@@ -118,12 +117,9 @@ fn run(words: &[&str]) -> Result<bool, String> {
     match words {
         ["help" | "--help"] => write_output(format!("{USAGE}\n").as_bytes())?,
         ["listing"] => list().map_err(|error| error.to_string())?,
-        ["assemble"] => {
-            let text = io::read_to_string(io::stdin()).map_err(|error| error.to_string())?;
-            write_output(&text::bytes_of(&text::assemble(&text)?))?
-        }
-        ["assemble", file] => write_output(&text::bytes_of(&text::assemble_file(file)?))?,
-        ["explain"] => write_output(text::explain(&read_input()?).as_bytes())?,
+        ["assemble"] => write_output(&texts::bytes_of(&texts::assemble_input()?))?,
+        ["assemble", file] => write_output(&texts::bytes_of(&texts::assemble_file(file)?))?,
+        ["explain"] => write_output(texts::explain(&read_input()?).as_bytes())?,
         ["check", program, files @ ..] if !files.is_empty() => return check::run(program, files),
         ["chart", program, file] => match chart::run(program, file)? {
             Some(picture) => write_output(picture.as_bytes())?,

@@ -13,6 +13,7 @@ use super::svg::{
 use super::words::{self, Label};
 use crate::paper::forms::{Leg, Tenths};
 use crate::paper::record::{Point, Relationship};
+use crate::texts::hex_text;
 
 const MARGIN: i32 = 20;
 /// From one line of a label to the next.
@@ -109,7 +110,8 @@ struct Placed {
     /// The top of what belongs to the item.
     top: i32,
     arrows: Vec<(i32, Vec<LabelLine>)>,
-    refusal: Option<i32>,
+    /// The refusal in lines, and where the first stands.
+    refusal: (i32, Vec<String>),
     /// Where the badges stand: the relationship, and that the call is over.
     badges: i32,
     bottom: i32,
@@ -165,11 +167,12 @@ fn draw_header(svg: &mut Svg, columns: &Columns, chart: &Chart, top: i32) -> i32
 fn notes(chart: &Chart) -> Vec<String> {
     let mut notes = Vec::new();
     if let Some(end) = &chart.end {
-        let number = end.number;
         let cause = match end.cause {
             Cause::Profile => "The listing ends with the profile".to_string(),
-            Cause::Length => format!("The listing ends with item {number}: none is of its length"),
-            Cause::CutShort => format!("The listing ends with item {number}, which is cut short"),
+            Cause::Length(item) => format!("The listing ends with item {item}: none is so long"),
+            Cause::CutShort(item) => {
+                format!("The listing ends with item {item}, which is cut short")
+            }
         };
         notes.push(match end.unread {
             0 => format!("{cause}."),
@@ -195,13 +198,12 @@ fn draw_strays(svg: &mut Svg, columns: &Columns, strays: &[&Step], top: i32) -> 
     y += 36;
     svg.text(&HEADING, Anchor::Start, (MARGIN, y), "Items of no call");
     for stray in strays {
-        let bytes = stray.bytes.iter().take(MOST_BYTES);
-        let mut text: Vec<String> = bytes.map(|byte| format!("{byte:02X}")).collect();
-        if stray.bytes.len() > MOST_BYTES {
-            text.push("...".to_string());
-        }
+        let text = match stray.bytes.get(..MOST_BYTES) {
+            Some(start) if start.len() < stray.bytes.len() => format!("{} ..", hex_text(start)),
+            _ => hex_text(&stray.bytes),
+        };
         let left = columns.time + 24;
-        let lines = BYTES.wrap(&text.join(" "), columns.width - MARGIN - left);
+        let lines = BYTES.wrap(&text, columns.width - MARGIN - left);
         y += 26;
         let number = stray.number.to_string();
         svg.text(&TIME, Anchor::Start, (MARGIN, y), &number);
@@ -272,10 +274,9 @@ fn place_row(columns: &Columns, row: &Row, top: i32) -> Placed {
         y += 6 + LINE * lines.len() as i32 + 6;
         arrows.push((y, lines));
     }
-    let refusal = row.refusal.map(|_| {
-        y += LINE + 2;
-        y
-    });
+    let refusal = refusal_lines(row);
+    let refusal_top = y + LINE + 2;
+    y += LINE * refusal.len() as i32;
     if row.relationship.is_some() || row.over {
         y += 8 + BADGE_HEIGHT;
     }
@@ -287,10 +288,21 @@ fn place_row(columns: &Columns, row: &Row, top: i32) -> Placed {
         comment,
         top: row_top,
         arrows,
-        refusal,
+        refusal: (refusal_top, refusal),
         badges,
         bottom,
     }
+}
+
+/// A refusal stands between the switch and its neighbour on the item's side.
+fn refusal_lines(row: &Row) -> Vec<String> {
+    let [left, right, _] = GAPS;
+    let gap = match row.arrows[0].from {
+        Party::Caller => left,
+        _ => right,
+    };
+    let text = row.refusal.map(words::refusal).unwrap_or_default();
+    REFUSED.wrap(&text, gap - 2 * LABEL_MARGIN)
 }
 
 fn comment_width(columns: &Columns) -> i32 {
@@ -506,9 +518,7 @@ impl Drawing<'_> {
             self.draw_arrow(svg, arrow, *y);
             self.draw_label(svg, arrow, *y, lines);
         }
-        if let (Some(refusal), Some(y)) = (row.refusal, placed.refusal) {
-            self.draw_refusal(svg, &row.arrows[0], &words::refusal(refusal), y);
-        }
+        self.draw_refusal(svg, &row.arrows[0], &placed.refusal);
         if row.over {
             self.draw_over(svg, placed.badges);
         }
@@ -620,13 +630,16 @@ impl Drawing<'_> {
     }
 
     /// Beside the switch, on the side where the item comes from.
-    fn draw_refusal(&self, svg: &mut Svg, item: &Arrow, text: &str, y: i32) {
+    fn draw_refusal(&self, svg: &mut Svg, item: &Arrow, (top, lines): &(i32, Vec<String>)) {
         let x = self.x(Party::Switch);
         let (anchor, x) = match item.from {
-            Party::Caller => (Anchor::End, x - HOLD_HALF - 6),
-            _ => (Anchor::Start, x + HOLD_HALF + 6),
+            Party::Caller => (Anchor::End, x - LABEL_MARGIN),
+            _ => (Anchor::Start, x + LABEL_MARGIN),
         };
-        svg.text(&REFUSED, anchor, (x, y), text);
+        for (place, line) in lines.iter().enumerate() {
+            let y = top + LINE * place as i32;
+            svg.text(&REFUSED, anchor, (x, y), line);
+        }
     }
 
     fn draw_over(&self, svg: &mut Svg, y: i32) {

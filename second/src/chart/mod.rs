@@ -20,58 +20,55 @@ mod tests;
 
 use crate::compare::program::output_of;
 use crate::paper::listing;
-use crate::texts::text;
+use crate::texts;
 use ladder::Chart;
 use play::Scenario;
-use std::fs;
 
 /// The chart of a scenario; nothing, but a message, if the program's answers
 /// differ from this program's.
 pub fn run(program: &str, file: &str) -> Result<Option<String>, String> {
-    let source = fs::read_to_string(file).map_err(|error| format!("{file}: {error}"))?;
-    let lines = text::assemble(&source).map_err(|error| format!("{file}: {error}"))?;
+    let source = texts::read_file(file)?;
+    let lines = texts::assemble(file, &source)?;
+    let input = texts::bytes_of(&lines);
+    let theirs = output_of(program, &input)?;
+    let ours = listing::of(&input);
     let scenario = Scenario::play(&source, &lines);
-    let theirs = output_of(program, &text::bytes_of(&lines))?;
-    let ours = listing::of(&text::bytes_of(&lines));
-    if let Some(difference) = first_difference(&scenario, program, &theirs, &ours) {
-        eprintln!("{file}{difference}; no chart is drawn");
+    if theirs != ours {
+        let difference = difference(&scenario, program, file, &theirs, &ours);
+        eprintln!("{difference}");
         return Ok(None);
     }
     Ok(Some(draw::page(&Chart::of(&scenario))))
 }
 
-/// The first line of the listings that is not the same, after the place in the
-/// file that it answers.
-fn first_difference(
+/// The first lines of the listings that are not the same, after the line of the
+/// file that they answer.
+fn difference(
     scenario: &Scenario,
     program: &str,
+    file: &str,
     theirs: &[u8],
     ours: &[u8],
-) -> Option<String> {
-    if theirs == ours {
-        return None;
+) -> String {
+    let [mut theirs, mut ours] = [theirs, ours].map(|listing| listing.split(|byte| *byte == b'\n'));
+    let mut pairs = (0..).map(|place| (place, theirs.next(), ours.next()));
+    let differs = |(_, their, our): &(usize, Option<&[u8]>, Option<&[u8]>)| their != our;
+    let (place, their, our) = pairs.find(differs).expect("the listings differ");
+    let (their, our) = (shown(their), shown(our));
+    let message = format!("{program} says {their}, second says {our}: no chart is drawn");
+    match scenario.line_of_answer(place) {
+        Some(line) => texts::at(file, line, &message),
+        None => format!("{file}: {message}"),
     }
-    let [theirs, ours] = [theirs, ours].map(String::from_utf8_lossy);
-    let [theirs, ours] = [&theirs, &ours].map(|listing| listing.split('\n').collect::<Vec<_>>());
-    let place = (0..).find(|place| theirs.get(*place) != ours.get(*place))?;
-    let line = match scenario.line_of_answer(place) {
-        Some(line) => format!(":{line}"),
-        None => String::new(),
-    };
-    let [their, our] = [&theirs, &ours].map(|listing| shown(listing.get(place).copied()));
-    Some(format!("{line}: {program} says {their}, second says {our}"))
 }
 
-/// A line of a listing; what is no text, or too long for an answer, is not
+/// A line of a listing. What is no text, or too long for an answer, is not
 /// thrown at the reader.
-fn shown(line: Option<&str>) -> String {
+fn shown(line: Option<&[u8]>) -> String {
     const LONGEST: usize = 60;
     match line {
-        None | Some("") => "nothing".to_string(),
-        Some(line) if line.chars().count() > LONGEST => {
-            let start: String = line.chars().take(LONGEST).collect();
-            format!("`{}...`", start.escape_debug())
-        }
-        Some(line) => format!("`{}`", line.escape_debug()),
+        None | Some([]) => "nothing".to_string(),
+        Some(line) if line.len() > LONGEST => format!("`{}..`", line[..LONGEST].escape_ascii()),
+        Some(line) => format!("`{}`", line.escape_ascii()),
     }
 }

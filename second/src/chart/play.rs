@@ -2,19 +2,18 @@
 
 use crate::paper::answer::Answer;
 use crate::paper::forms::{read_item, read_profile, ITEM_LENGTHS};
-use crate::paper::listing::frames;
 use crate::paper::record::Record;
-use crate::paper::table;
-use crate::texts::text::{self, Line};
+use crate::paper::table::{self, Entry};
+use crate::texts::{Line, Written};
 use std::iter::Peekable;
 use std::vec::IntoIter;
 
 pub struct Scenario {
-    /// The first comment of the text, if it stands before the items.
+    /// The comment before the items.
     pub title: Option<String>,
     pub profile: Vec<u8>,
     pub steps: Vec<Step>,
-    /// Why the listing ends before the text does, if it does.
+    /// Where the listing ends, if something ends it.
     pub end: Option<End>,
 }
 
@@ -37,11 +36,9 @@ pub struct Step {
     pub record: Option<Record>,
 }
 
-/// The item that the listing ends with (0 for the profile), and how many lines
-/// of the text it has not read.
 pub struct End {
-    pub number: usize,
     pub cause: Cause,
+    /// How many lines of the text follow, which nobody reads.
     pub unread: usize,
 }
 
@@ -49,127 +46,83 @@ pub struct End {
 pub enum Cause {
     /// The profile is refused.
     Profile,
-    /// An item has a length that none has.
-    Length,
-    /// The input ends within an item.
-    CutShort,
+    /// The item of this number has a length that none has.
+    Length(usize),
+    /// The input ends within the item of this number.
+    CutShort(usize),
 }
 
 impl Scenario {
-    /// Plays the lines that the text has been assembled to.
+    /// Plays the lines that a text has been assembled to: each is one item by
+    /// itself, after the profile.
     pub fn play(source: &str, lines: &[Line]) -> Scenario {
-        let bytes = text::bytes_of(lines);
-        let frames = frames(&bytes);
-        let (profile, items) = match frames.split_first() {
-            Some((profile, items)) => (*profile, items),
-            None => (&[][..], &[][..]),
-        };
         let source: Vec<&str> = source.lines().collect();
+        let (profile, items) = match lines {
+            [profile, items @ ..] => (profile.bytes.clone(), items),
+            [] => (vec![], lines),
+        };
         let mut comments = Comments::of(&source);
-        let first_item = lines.get(1).map_or(usize::MAX, |line| line.number);
+        let first = items.first().map_or(usize::MAX, |line| line.number);
         let mut scenario = Scenario {
-            title: comments.before(first_item),
-            profile: profile.to_vec(),
+            title: comments.before(first),
+            profile,
             steps: Vec::new(),
             end: None,
         };
-        if read_profile(profile).is_none() {
-            scenario.end = Some(End {
-                number: 0,
-                cause: Cause::Profile,
-                unread: lines.len().saturating_sub(1),
-            });
+        if read_profile(&scenario.profile).is_none() {
+            let (cause, unread) = (Cause::Profile, items.len());
+            scenario.end = Some(End { cause, unread });
             return scenario;
         }
         let mut table = table::fresh();
-        let mut place = Place {
-            lines,
-            index: 0,
-            start: 0,
-            offset: profile.len(),
-        };
-        for (index, item) in items.iter().enumerate() {
-            place.find_line();
-            let call = read_item(item).map(|item| item.call).or(place.call());
-            let answer = table::feed_sound(&mut table, item, profile);
-            let is_calls = |entry: &&table::Entry| call.is_some() && entry.owner == call;
+        for (line, number) in items.iter().zip(1..) {
+            let call = read_item(&line.bytes).map(|item| item.call).or(line.call);
+            let answer = table::feed_sound(&mut table, &line.bytes, &scenario.profile);
             scenario.steps.push(Step {
-                number: index + 1,
-                line: place.line(),
-                comment: comments.before(place.line()),
+                number,
+                line: line.number,
+                comment: comments.before(line.number),
                 call,
-                bytes: item.to_vec(),
-                words: words_of(source[place.line() - 1]),
+                bytes: line.bytes.clone(),
+                words: words_of(source[line.number - 1]),
                 answer,
-                record: table.iter().find(is_calls).map(|entry| entry.record),
+                record: call.and_then(|call| record_of(call, &table)),
             });
-            scenario.end = ends_listing(item).map(|cause| End {
-                number: index + 1,
-                cause,
-                unread: lines.len() - place.index - 1,
-            });
-            place.offset += item.len();
+            if let Some(cause) = ends_listing(&line.bytes, number) {
+                let unread = items.len() - number;
+                scenario.end = Some(End { cause, unread });
+                break;
+            }
         }
         scenario
     }
 
-    /// The line of the text that is answered in this line of the listing; the
-    /// first one of the listing is its header.
+    /// The line of the text that is answered in this line of the listing, which
+    /// begins with a header in line 0.
     pub fn line_of_answer(&self, place: usize) -> Option<usize> {
         self.steps.get(place.checked_sub(1)?).map(|step| step.line)
     }
 }
 
-/// Where in the lines an item begins. It need not begin with a line, since a
-/// line of bytes can be a part of one, or several.
-struct Place<'a> {
-    lines: &'a [Line],
-    /// The line at hand, and where it starts in the bytes.
-    index: usize,
-    start: usize,
-    /// Where the item starts in the bytes.
-    offset: usize,
-}
-
-impl Place<'_> {
-    fn find_line(&mut self) {
-        while self.index + 1 < self.lines.len() {
-            let next = self.start + self.lines[self.index].bytes.len();
-            if next > self.offset {
-                break;
-            }
-            self.start = next;
-            self.index += 1;
-        }
-    }
-
-    fn line(&self) -> usize {
-        self.lines[self.index].number
-    }
-
-    /// The call that the line names, if the item begins with it.
-    fn call(&self) -> Option<u32> {
-        let call = self.lines[self.index].call;
-        call.filter(|_| self.start == self.offset)
-    }
+fn record_of(call: u32, table: &[Entry]) -> Option<Record> {
+    let owned = table.iter().find(|entry| entry.owner == Some(call));
+    owned.map(|entry| entry.record)
 }
 
 /// Whether the listing program reads nothing after the item.
-fn ends_listing(item: &[u8]) -> Option<Cause> {
+fn ends_listing(item: &[u8], number: usize) -> Option<Cause> {
     let length = item.first_chunk().map(|field| u16::from_be_bytes(*field));
     match length.map(usize::from) {
-        Some(length) if !ITEM_LENGTHS.contains(&length) => Some(Cause::Length),
+        Some(length) if !ITEM_LENGTHS.contains(&length) => Some(Cause::Length(number)),
         Some(length) if item.len() == length => None,
-        _ => Some(Cause::CutShort),
+        _ => Some(Cause::CutShort(number)),
     }
 }
 
-/// What stands in a line after `call` and its number.
+/// What stands in a line after `TIME call CALL`.
 fn words_of(line: &str) -> String {
-    let content = line.split("--").next().unwrap_or("");
-    let content = content.split("->").next().unwrap_or("");
-    let words: Vec<&str> = content.split_whitespace().skip(3).collect();
-    words.join(" ")
+    let words: Vec<&str> = Written::new(line).content.split_whitespace().collect();
+    words.get(3..).unwrap_or(&[]).join(" ")
 }
 
 /// The comments that have lines of their own, each with the number of its line.
@@ -179,12 +132,12 @@ struct Comments {
 
 impl Comments {
     fn of(source: &[&str]) -> Comments {
-        let comment = |(place, line): (usize, &&str)| {
+        let comment = |(line, number): (&&str, usize)| {
             let comment = line.trim().strip_prefix("--")?;
             let comment = comment.trim_matches(|c: char| c == '-' || c.is_whitespace());
-            (!comment.is_empty()).then(|| (place + 1, comment.to_string()))
+            (!comment.is_empty()).then(|| (number, comment.to_string()))
         };
-        let comments: Vec<_> = source.iter().enumerate().filter_map(comment).collect();
+        let comments: Vec<_> = source.iter().zip(1..).filter_map(comment).collect();
         Comments {
             left: comments.into_iter().peekable(),
         }

@@ -5,7 +5,7 @@ use crate::paper::forms::{
     Body, Entry, Event, Handling, Number, Operation, Other, Profile, Sense, Setup, Tenths,
 };
 use crate::paper::record::{CalledNumber, Mode, Point, Relationship};
-use crate::texts::text::digit_character;
+use crate::texts::digit_character;
 
 /// What stands at an arrow: a name, and lines that say more.
 #[derive(Clone, PartialEq, Eq, Debug)]
@@ -109,8 +109,9 @@ fn operation(operation: &Operation) -> Label {
         }
         Operation::Release => ("ReleaseCall", vec![]),
         Operation::ApplyCharging { leg, period } => {
-            let detail = format!("leg {}, period {}", leg.number(), tenths(*period));
-            ("ApplyCharging", vec![detail])
+            let leg = format!("leg {}", leg.number());
+            let period = format!("period {}", tenths(*period));
+            ("ApplyCharging", vec![leg, period])
         }
         Operation::ActivityTest => ("ActivityTest", vec![]),
         Operation::Abort => ("Abort", vec!["of the dialogue".to_string()]),
@@ -157,8 +158,8 @@ pub fn event_report(point: Point, mode: Mode) -> Label {
 }
 
 pub fn charge_report(leg: u8, elapsed: Tenths) -> Label {
-    let detail = format!("leg {leg}, elapsed {}", tenths(elapsed));
-    Label::new("ApplyChargingReport", vec![detail])
+    let elapsed = format!("elapsed {}", tenths(elapsed));
+    Label::new("ApplyChargingReport", vec![format!("leg {leg}"), elapsed])
 }
 
 pub fn routing(called: Option<&CalledNumber>, time: Tenths, deadline: Tenths) -> Label {

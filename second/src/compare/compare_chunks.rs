@@ -12,7 +12,7 @@ use crate::compare::random::Random;
 use crate::paper::answer::Refusal;
 use crate::paper::feeder::{Feeder, ROOM};
 use crate::paper::forms::{write_item, ITEM_LENGTHS};
-use crate::texts::text;
+use crate::texts;
 use std::io::{self, BufRead, BufReader, BufWriter, Read, Write};
 use std::iter::{self, Peekable};
 use std::process::ChildStdin;
@@ -46,7 +46,7 @@ const HELD_COUNTS: [u64; 14] = [
 ];
 
 fn item(text: &str) -> Vec<u8> {
-    let (kind, body) = text::assemble_body(text).expect("it is an item");
+    let (kind, body) = texts::assemble_body(text).expect("it is an item");
     write_item(kind, 7, 1000, &body)
 }
 

@@ -16,7 +16,7 @@ use crate::compare::triggers::{
 };
 use crate::paper::forms::{kind, with_length_and_version, write_item, Number, TIME_END};
 use crate::paper::trigger::{compare, compare_from_front, Compared};
-use crate::texts::text;
+use crate::texts;
 
 /// The stored number of P6, and what is dialled.
 const P6: &str = "profile continue 120 enabling 4/491";
@@ -230,7 +230,7 @@ pub fn run(program: &str, count: u64, seed: u64) -> Result<bool, String> {
         if let Some(difference) = found.map_err(|error| format!("case {number}: {error}"))? {
             differences += 1;
             if differences == 1 {
-                let (checks, round) = (case.checks, text::explain(&case.round));
+                let (checks, round) = (case.checks, texts::explain(&case.round));
                 println!("the first difference, case {number}, {checks} checks:");
                 println!("{round}{difference}");
             }

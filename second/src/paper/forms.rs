@@ -69,7 +69,7 @@ const VERSION: u8 = 1;
 pub const NATURES: RangeInclusive<u8> = 0..=127;
 pub const DIGIT_COUNTS: RangeInclusive<u8> = 1..=15;
 pub const DIGITS: RangeInclusive<u8> = 0..=14;
-const CAUSES: RangeInclusive<u8> = 0..=127;
+pub const CAUSES: RangeInclusive<u8> = 0..=127;
 const ENTRY_COUNTS: RangeInclusive<u8> = 1..=10;
 const ENTRY_BYTES: usize = 5;
 
@@ -97,6 +97,7 @@ pub enum Other<'a> {
     Operation(Operation<'a>),
 }
 
+#[allow(dead_code, reason = "no rule asks for causes and digits")]
 pub enum Event {
     RouteFailure { cause: u8 },
     Busy { cause: u8 },
