@@ -62,10 +62,36 @@ pub enum Party {
 }
 
 impl Party {
+    pub const ALL: [Party; 4] = [
+        Party::Caller,
+        Party::Switch,
+        Party::ServiceNode,
+        Party::Called,
+    ];
+
     pub fn of_leg(leg: Leg) -> Party {
         match leg {
             Leg::One => Party::Caller,
             Leg::Two => Party::Called,
+        }
+    }
+
+    pub fn name(self) -> &'static str {
+        match self {
+            Party::Caller => "caller",
+            Party::Switch => "switch",
+            Party::ServiceNode => "service node",
+            Party::Called => "called party",
+        }
+    }
+
+    /// What it is in the call.
+    pub fn role(self) -> &'static str {
+        match self {
+            Party::Caller => "leg 1",
+            Party::Switch => "gsmSSF",
+            Party::ServiceNode => "gsmSCF",
+            Party::Called => "leg 2",
         }
     }
 }
@@ -107,6 +133,42 @@ pub struct Charge {
     pub ended: Option<usize>,
     /// What was reported at the end; nothing if it was dropped.
     pub reported: Option<Tenths>,
+}
+
+/// What stands beside a charge's strip, at the item of a row.
+#[derive(Clone, PartialEq, Eq, Debug)]
+pub struct Note {
+    pub row: usize,
+    pub name: String,
+    pub detail: String,
+}
+
+impl Charge {
+    /// What became of it, row by row.
+    pub fn notes(&self) -> Vec<Note> {
+        let note = |row, name: &str, detail: &str| Note {
+            row,
+            name: name.to_string(),
+            detail: detail.to_string(),
+        };
+        let granted = format!("{} granted", self.period.0);
+        let mut notes = match self.started {
+            Some(row) if row == self.granted => vec![note(row, &granted, "clock starts")],
+            Some(row) => vec![
+                note(self.granted, &granted, "not running"),
+                note(row, "clock starts", "at the answer"),
+            ],
+            None => vec![note(self.granted, &granted, "not running")],
+        };
+        notes.extend(self.ended.map(|row| match self.reported {
+            Some(elapsed) => {
+                let figure = format!("{} elapsed", elapsed.0);
+                note(row, &figure, &words::duration(elapsed))
+            }
+            None => note(row, "dropped", "unreported"),
+        }));
+        notes
+    }
 }
 
 impl<'a> Chart<'a> {

@@ -12,7 +12,12 @@ mod play;
 mod words;
 
 // How it is drawn.
-mod draw;
+mod describe;
+mod drawing;
+mod layout;
+mod legend;
+mod page;
+mod signs;
 mod svg;
 
 #[cfg(test)]
@@ -38,7 +43,7 @@ pub fn run(program: &str, file: &str) -> Result<Option<String>, String> {
         eprintln!("{difference}");
         return Ok(None);
     }
-    Ok(Some(draw::page(&Chart::of(&scenario))))
+    Ok(Some(page::draw(&Chart::of(&scenario))))
 }
 
 /// The first lines of the listings that are not the same, after the line of the

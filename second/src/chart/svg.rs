@@ -168,10 +168,11 @@ impl Svg {
         self.texts(anchor, spot, &[(font, text)]);
     }
 
-    /// Texts in one line, each in its font, with a space between them.
+    /// Texts in one line, each in its font, with a space between them; empty
+    /// ones are left out.
     pub fn texts(&mut self, anchor: Anchor, (x, y): Spot, texts: &[(&Font, &str)]) {
         let mut parts = String::new();
-        for (font, text) in texts {
+        for (font, text) in texts.iter().filter(|(_, text)| !text.is_empty()) {
             let (class, text) = (font.class, escape(text));
             // Not every renderer keeps a blank at a tspan's edge.
             let space = match parts.is_empty() {

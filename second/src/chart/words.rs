@@ -52,6 +52,11 @@ pub fn duration(length: Tenths) -> String {
     parts.join(" ")
 }
 
+/// How long nothing has happened.
+pub fn pause(length: Tenths) -> String {
+    format!("{} later", duration(length))
+}
+
 /// Tenths, and what they are in words.
 fn tenths(length: Tenths) -> String {
     format!("{} ({})", length.0, duration(length))
@@ -123,7 +128,7 @@ fn entry(entry: &Entry) -> String {
     let is_named =
         |point: &Point| point.number() == entry.point && point.leg().number() == entry.leg;
     let name = Point::ARMABLE.into_iter().find(is_named).map(point_name);
-    let name = name.unwrap_or("unknown point");
+    let name = name.unwrap_or("unknown");
     let mode = match entry.mode {
         0 => "interrupt".to_string(),
         1 => "notify".to_string(),
@@ -185,6 +190,10 @@ pub fn point_name(point: Point) -> &'static str {
         Point::Answer => "Answer",
         Point::Seized => "Seized",
     }
+}
+
+pub fn hold(point: Point) -> String {
+    format!("held at {}", point.number())
 }
 
 pub fn relationship(relationship: Relationship) -> &'static str {
