@@ -8,8 +8,8 @@ use std::fmt::Write;
 /// How a text is set. The style sheet is made of these, so that what is
 /// reckoned is what is shown.
 pub struct Font {
-    class: &'static str,
-    size: i32,
+    pub class: &'static str,
+    pub size: i32,
     family: &'static str,
     weight: &'static str,
     colour: &'static str,
@@ -54,7 +54,7 @@ pub const BYTES: Font = Font {
     ..font("bytes", 12, "normal", INK)
 };
 
-const FONTS: [&Font; 19] = [
+pub const FONTS: [&Font; 19] = [
     &TITLE,
     &LEAD,
     &PROFILE,
