@@ -4,6 +4,9 @@
 //! as they land), in the most direct way, and run beside the proved program:
 //! where the two differ, the papers decide.
 
+#[macro_use]
+mod output;
+
 mod bench;
 mod chart;
 mod compare;
@@ -15,11 +18,11 @@ mod texts;
 use bench::measure;
 use compare::{
     check, chunks, compare_chunks, compare_listings, compare_tables, compare_triggers, coverage,
-    generate, tables, triggers,
+    generate, list, tables, triggers,
 };
 use paper::listing;
 use std::env;
-use std::io::{self, BufReader, Read, Write};
+use std::io::{self, BufReader, Read};
 use std::process::ExitCode;
 
 const USAGE: &str = "\
@@ -35,6 +38,9 @@ Scenarios as text: a profile and items in words (src/texts/mod.rs shows one)
                                  bytes that a listing program reads
   second explain < BYTES         makes text of such bytes; what is malformed
                                  comes out as a line of bytes in hex
+  second list PROGRAM FILE...    runs the listing program PROGRAM on scenarios,
+                                 and prints them with its answers; what was
+                                 written as expected there has to be answered
   second check PROGRAM FILE...   runs the listing program PROGRAM and this one
                                  on scenarios, and holds both to the answers
                                  that stand in the text
@@ -105,8 +111,8 @@ fn main() -> ExitCode {
         Ok(true) => ExitCode::SUCCESS,
         Ok(false) => ExitCode::FAILURE,
         Err(error) => {
-            eprintln!("{error}");
-            ExitCode::from(2)
+            output::complain(error);
+            ExitCode::from(output::ERROR)
         }
     }
 }
@@ -115,27 +121,25 @@ fn main() -> ExitCode {
 /// not reached.
 fn run(words: &[&str]) -> Result<bool, String> {
     match words {
-        ["help" | "--help"] => write_output(format!("{USAGE}\n").as_bytes())?,
-        ["listing"] => list().map_err(|error| error.to_string())?,
-        ["assemble"] => write_output(&texts::bytes_of(&texts::assemble_input()?))?,
-        ["assemble", file] => write_output(&texts::bytes_of(&texts::assemble_file(file)?))?,
-        ["explain"] => write_output(texts::explain(&read_input()?).as_bytes())?,
+        ["help" | "--help"] => output::write(format!("{USAGE}\n").as_bytes())?,
+        ["listing"] => run_listing().map_err(|error| format!("listing: {error}"))?,
+        ["assemble"] => output::write(&texts::bytes_of(&texts::assemble_input()?))?,
+        ["assemble", file] => output::write(&texts::bytes_of(&texts::assemble_file(file)?))?,
+        ["explain"] => output::write(texts::explain(&read_input()?).as_bytes())?,
         ["check", program, files @ ..] if !files.is_empty() => return check::run(program, files),
-        ["chart", program, file] => match chart::run(program, file)? {
-            Some(picture) => write_output(picture.as_bytes())?,
-            None => return Ok(false),
-        },
-        ["generate", seed] => write_output(&generate::scenario(number(seed)?))?,
+        ["list", program, files @ ..] if !files.is_empty() => return list::run(program, files),
+        ["chart", program, file] => return chart::run(program, file),
+        ["generate", seed] => output::write(&generate::scenario(number(seed)?))?,
         ["coverage"] => return Ok(coverage::run(20_000, 1)),
         ["coverage", count, seed @ ..] => return Ok(coverage::run(number(count)?, first(seed)?)),
         ["compare", program, count, seed @ ..] => {
             return compare_listings::run(program, number(count)?, first(seed)?)
         }
-        ["tables"] => write_output(&tables::run(&read_input()?)?)?,
+        ["tables"] => output::write(&tables::run(&read_input()?)?)?,
         ["compare-tables", program, count, seed @ ..] => {
             return compare_tables::run(program, number(count)?, first(seed)?)
         }
-        ["chunks"] => write_output(&chunks::run(&read_input()?))?,
+        ["chunks"] => output::write(&chunks::run(&read_input()?))?,
         ["compare-chunks", program, count, seed @ ..] => {
             return compare_chunks::run(program, number(count)?, first(seed)?)
         }
@@ -144,7 +148,7 @@ fn run(words: &[&str]) -> Result<bool, String> {
             return compare_triggers::run(program, number(count)?, first(seed)?)
         }
         ["feed-items"] => println!("{}", measure::feed_items(&read_input()?)?),
-        ["bench-input", open @ ("1" | "32" | "64"), items] => write_output(&measure::input(
+        ["bench-input", open @ ("1" | "32" | "64"), items] => output::write(&measure::input(
             number(open)? as u32,
             number(items)? as usize,
         )?)?,
@@ -155,7 +159,7 @@ fn run(words: &[&str]) -> Result<bool, String> {
     Ok(true)
 }
 
-fn list() -> io::Result<()> {
+fn run_listing() -> io::Result<()> {
     let mut input = BufReader::with_capacity(listing::BUFFER, io::stdin().lock());
     let mut output = io::stdout().lock();
     listing::run(&mut input, &mut output)
@@ -183,9 +187,4 @@ fn read_input() -> Result<Vec<u8>, String> {
     let read = io::stdin().lock().read_to_end(&mut bytes);
     read.map_err(|error| error.to_string())?;
     Ok(bytes)
-}
-
-fn write_output(bytes: &[u8]) -> Result<(), String> {
-    let written = io::stdout().lock().write_all(bytes);
-    written.map_err(|error| error.to_string())
 }

@@ -63,6 +63,9 @@ fn arrow_words(arrow: &Arrow) -> String {
 /// What is not drawn.
 pub fn notes(chart: &Chart) -> Vec<String> {
     let mut notes = Vec::new();
+    if chart.ladders.is_empty() && chart.strays.is_empty() && chart.end.is_none() {
+        notes.push("The scenario has no items.".to_string());
+    }
     if let Some(end) = &chart.end {
         let end_words = match end.cause {
             Cause::Profile => "The listing ends with the profile".to_string(),

@@ -1,7 +1,7 @@
 //! What is drawn: rows with arrows, and what lasts from one row to another. No
 //! coordinates here.
 
-use super::play::{End, Scenario, Step};
+use super::play::{End, Played, Step};
 use super::words::{self, Label};
 use crate::paper::answer::{Accepted, Refusal};
 use crate::paper::forms::{kind, read_item, read_profile, Leg, Tenths};
@@ -172,25 +172,25 @@ impl Charge {
 }
 
 impl<'a> Chart<'a> {
-    pub fn of(scenario: &'a Scenario) -> Chart<'a> {
+    pub fn of(played: &'a Played) -> Chart<'a> {
         let mut calls: Vec<u32> = Vec::new();
-        for call in scenario.steps.iter().filter_map(|step| step.call) {
+        for call in played.steps.iter().filter_map(|step| step.call) {
             if !calls.contains(&call) {
                 calls.push(call);
             }
         }
-        let steps = &scenario.steps;
+        let steps = &played.steps;
         let drawn = calls.iter().take(CALLS);
         Chart {
-            title: scenario.title.as_deref(),
-            profile: match read_profile(&scenario.profile) {
+            title: played.title.as_deref(),
+            profile: match read_profile(&played.profile) {
                 Some(profile) => words::profile(&profile),
                 None => format!("Profile: {}.", words::refusal(Refusal::ProfileMalformed)),
             },
             ladders: drawn.map(|call| Ladder::of(*call, steps)).collect(),
             calls_left_out: calls.len().saturating_sub(CALLS),
             strays: steps.iter().filter(|step| step.call.is_none()).collect(),
-            end: scenario.end.as_ref(),
+            end: played.end.as_ref(),
         }
     }
 }

@@ -24,44 +24,38 @@ mod svg;
 mod tests;
 
 use crate::compare::program::output_of;
+use crate::output;
 use crate::paper::listing;
 use crate::texts;
 use ladder::Chart;
-use play::Scenario;
+use play::Played;
 
-/// The chart of a scenario; nothing, but a message, if the program's answers
-/// differ from this program's.
-pub fn run(program: &str, file: &str) -> Result<Option<String>, String> {
-    let source = texts::read_file(file)?;
-    let lines = texts::assemble(file, &source)?;
-    let input = texts::bytes_of(&lines);
+/// Draws the scenario of a file; false if the program's answers differ from this
+/// program's.
+pub fn run(program: &str, file: &str) -> Result<bool, String> {
+    let scenario = texts::read_file(file)?;
+    let input = texts::bytes_of(&scenario.lines);
     let theirs = output_of(program, &input)?;
     let ours = listing::of(&input);
-    let scenario = Scenario::play(&source, &lines);
+    let played = Played::of(&scenario);
     if theirs != ours {
-        let difference = difference(&scenario, program, file, &theirs, &ours);
-        eprintln!("{difference}");
-        return Ok(None);
+        output::complain(difference(&played, program, file, &theirs, &ours));
+        return Ok(false);
     }
-    Ok(Some(page::draw(&Chart::of(&scenario))))
+    output::write(page::draw(&Chart::of(&played)).as_bytes())?;
+    Ok(true)
 }
 
 /// The first lines of the listings that are not the same, after the line of the
 /// file that they answer.
-fn difference(
-    scenario: &Scenario,
-    program: &str,
-    file: &str,
-    theirs: &[u8],
-    ours: &[u8],
-) -> String {
+fn difference(played: &Played, program: &str, file: &str, theirs: &[u8], ours: &[u8]) -> String {
     let [mut theirs, mut ours] = [theirs, ours].map(|listing| listing.split(|byte| *byte == b'\n'));
     let mut pairs = (0..).map(|place| (place, theirs.next(), ours.next()));
     let differs = |(_, their, our): &(usize, Option<&[u8]>, Option<&[u8]>)| their != our;
     let (place, their, our) = pairs.find(differs).expect("the listings differ");
     let (their, our) = (shown(their), shown(our));
     let message = format!("{program} says {their}, second says {our}: no chart is drawn");
-    match scenario.line_of_answer(place) {
+    match played.line_of_answer(place) {
         Some(line) => texts::at(file, line, &message),
         None => format!("{file}: {message}"),
     }

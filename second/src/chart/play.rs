@@ -4,11 +4,11 @@ use crate::paper::answer::Answer;
 use crate::paper::forms::{read_item, read_profile, ITEM_LENGTHS};
 use crate::paper::record::Record;
 use crate::paper::table::{self, Entry};
-use crate::texts::{Line, Written};
+use crate::texts::{Scenario, Written};
 use std::iter::Peekable;
 use std::vec::IntoIter;
 
-pub struct Scenario {
+pub struct Played {
     /// The comment before the items.
     pub title: Option<String>,
     pub profile: Vec<u8>,
@@ -52,49 +52,48 @@ pub enum Cause {
     CutShort(usize),
 }
 
-impl Scenario {
-    /// Plays the lines that a text has been assembled to: each is one item by
-    /// itself, after the profile.
-    pub fn play(source: &str, lines: &[Line]) -> Scenario {
-        let source: Vec<&str> = source.lines().collect();
-        let (profile, items) = match lines {
+impl Played {
+    /// Each line of a scenario is one item by itself, after the profile.
+    pub fn of(scenario: &Scenario) -> Played {
+        let written: Vec<&str> = scenario.text.lines().collect();
+        let (profile, items) = match &scenario.lines[..] {
             [profile, items @ ..] => (profile.bytes.clone(), items),
-            [] => (vec![], lines),
+            [] => (vec![], &[][..]),
         };
-        let mut comments = Comments::of(&source);
+        let mut comments = Comments::of(&written);
         let first = items.first().map_or(usize::MAX, |line| line.number);
-        let mut scenario = Scenario {
+        let mut played = Played {
             title: comments.before(first),
             profile,
             steps: Vec::new(),
             end: None,
         };
-        if read_profile(&scenario.profile).is_none() {
+        if read_profile(&played.profile).is_none() {
             let (cause, unread) = (Cause::Profile, items.len());
-            scenario.end = Some(End { cause, unread });
-            return scenario;
+            played.end = Some(End { cause, unread });
+            return played;
         }
         let mut table = table::fresh();
         for (line, number) in items.iter().zip(1..) {
             let call = read_item(&line.bytes).map(|item| item.call).or(line.call);
-            let answer = table::feed_sound(&mut table, &line.bytes, &scenario.profile);
-            scenario.steps.push(Step {
+            let answer = table::feed_sound(&mut table, &line.bytes, &played.profile);
+            played.steps.push(Step {
                 number,
                 line: line.number,
                 comment: comments.before(line.number),
                 call,
                 bytes: line.bytes.clone(),
-                words: words_of(source[line.number - 1]),
+                words: words_of(written[line.number - 1]),
                 answer,
                 record: call.and_then(|call| record_of(call, &table)),
             });
             if let Some(cause) = ends_listing(&line.bytes, number) {
                 let unread = items.len() - number;
-                scenario.end = Some(End { cause, unread });
+                played.end = Some(End { cause, unread });
                 break;
             }
         }
-        scenario
+        played
     }
 
     /// The line of the text that is answered in this line of the listing, which
@@ -131,13 +130,14 @@ struct Comments {
 }
 
 impl Comments {
-    fn of(source: &[&str]) -> Comments {
+    fn of(written: &[&str]) -> Comments {
         let comment = |(line, number): (&&str, usize)| {
-            let comment = line.trim().strip_prefix("--")?;
+            let line = Written::new(line);
+            let comment = line.comment.filter(|_| line.content.trim().is_empty())?;
             let comment = comment.trim_matches(|c: char| c == '-' || c.is_whitespace());
             (!comment.is_empty()).then(|| (number, comment.to_string()))
         };
-        let comments: Vec<_> = source.iter().zip(1..).filter_map(comment).collect();
+        let comments: Vec<_> = written.iter().zip(1..).filter_map(comment).collect();
         Comments {
             left: comments.into_iter().peekable(),
         }

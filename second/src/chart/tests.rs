@@ -3,13 +3,13 @@
 
 use super::ladder::{Charge, Chart, Form, Ladder, Party, Row, Run, CALLS};
 use super::page;
-use super::play::{Cause, Scenario};
+use super::play::{Cause, Played};
 use super::svg::{Font, FONTS, SPACE};
 use crate::compare::generate;
 use crate::paper::forms::{Leg, Tenths};
 use crate::paper::listing;
 use crate::paper::record::{Point, Relationship};
-use crate::texts;
+use crate::texts::{self, Scenario};
 
 /// The scenario that the README shows.
 const PREPAID: &str = "\
@@ -29,15 +29,22 @@ profile release 120
 40135 call 1 clear leg 1 cause 16
 40136 call 1 release";
 
-fn played(text: &str) -> Scenario {
-    let lines = texts::assemble("test", text).expect("the text is good");
-    Scenario::play(text, &lines)
+fn scenario(text: &str) -> Scenario {
+    Scenario {
+        name: "test".to_string(),
+        text: text.to_string(),
+        lines: texts::assemble("test", text).expect("the text is good"),
+    }
+}
+
+fn played(text: &str) -> Played {
+    Played::of(&scenario(text))
 }
 
 /// The only ladder of a scenario.
 fn ladder(text: &str) -> Ladder {
-    let scenario = played(text);
-    let mut ladders = Chart::of(&scenario).ladders;
+    let played = played(text);
+    let mut ladders = Chart::of(&played).ladders;
     assert_eq!(ladders.len(), 1);
     ladders.remove(0)
 }
@@ -217,7 +224,7 @@ fn charges_without_a_report() {
 /// Each call has its own ladder, in the order of the first items.
 #[test]
 fn ladders_of_two_calls() {
-    let scenario = played(
+    let played = played(
         "profile release 60
         0 call 9 setup 4/49151 service 17
         0 call 2 setup 4/49152 service 17
@@ -225,7 +232,7 @@ fn ladders_of_two_calls() {
         1 call 2 apply-charging leg 2 period 900
         2 call 9 answer",
     );
-    let ladders = Chart::of(&scenario).ladders;
+    let ladders = Chart::of(&played).ladders;
     let numbers = |ladder: &Ladder| ladder.rows.iter().map(|row| row.number).collect::<Vec<_>>();
     assert_eq!(ladders[0].call, 9);
     assert_eq!(numbers(&ladders[0]), [1, 3, 5]);
@@ -236,8 +243,8 @@ fn ladders_of_two_calls() {
 
 #[test]
 fn more_calls_than_are_drawn() {
-    let scenario = played("profile continue 60\n0 call 1..20 setup 4/49151 service 17");
-    let chart = Chart::of(&scenario);
+    let played = played("profile continue 60\n0 call 1..20 setup 4/49151 service 17");
+    let chart = Chart::of(&played);
     assert_eq!(chart.ladders.len(), CALLS);
     assert_eq!(chart.calls_left_out, 20 - CALLS);
     assert!(page::draw(&chart).contains("4 further calls are not drawn."));
@@ -247,14 +254,14 @@ fn more_calls_than_are_drawn() {
 /// no item has is the end.
 #[test]
 fn malformed_items() {
-    let scenario = played(
+    let played = played(
         "profile continue 120
         0 call 1 clear leg 3 cause 16
         bytes 00 0E 02 15 00 00 00 01 00 00 00 00 00 00
         bytes 00 0D
         0 call 1 continue",
     );
-    let chart = Chart::of(&scenario);
+    let chart = Chart::of(&played);
     assert_eq!(
         arrows(&chart.ladders[0].rows[0]),
         [(
@@ -272,8 +279,8 @@ fn malformed_items() {
 
 #[test]
 fn refused_profile() {
-    let scenario = played("profile continue 9 -> refused 2\n0 call 1 setup 4/1 service 1");
-    let chart = Chart::of(&scenario);
+    let played = played("profile continue 9 -> refused 2\n0 call 1 setup 4/1 service 1");
+    let chart = Chart::of(&played);
     assert!(chart.ladders.is_empty());
     assert_eq!(chart.profile, "Profile: refused 2: profile malformed.");
     let end = chart.end.expect("the listing ends");
@@ -318,12 +325,12 @@ fn texts_to_draw() -> Vec<String> {
 #[test]
 fn played_answers_are_the_listing() {
     for text in texts_to_draw() {
-        let lines = texts::assemble("test", &text).expect("the text is good");
+        let scenario = scenario(&text);
         let mut answers = b"item answer\n".to_vec();
-        for step in &Scenario::play(&text, &lines).steps {
+        for step in &Played::of(&scenario).steps {
             listing::push_line(&mut answers, step.number as u64, &step.answer);
         }
-        let listed = listing::of(&texts::bytes_of(&lines));
+        let listed = listing::of(&texts::bytes_of(&scenario.lines));
         let listed_profile = b"item answer\n0 refused 2\n";
         assert!(answers == listed || listed == listed_profile, "{text}");
     }

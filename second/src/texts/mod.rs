@@ -22,14 +22,19 @@
 mod answers;
 mod explain;
 mod items;
+mod listed;
 mod profile;
 mod scenario;
 #[cfg(test)]
 mod tests;
 mod values;
 
+pub use answers::{is_answer, PROFILE_REFUSED};
 pub use explain::{explain, explain_item, explain_profile};
 pub use items::{assemble_body, operation_name};
-pub use scenario::{assemble, assemble_file, assemble_input, bytes_of, Line};
-pub use scenario::{at, read_file, Written};
-pub use values::{digit_character, hex_text};
+pub use listed::{heading, listed, Listed};
+pub use scenario::{
+    answerable, assemble, assemble_file, assemble_input, at, bytes_of, read_file, Line, Scenario,
+    Written,
+};
+pub use values::{digit_character, hex_text, quoted};

@@ -4,15 +4,12 @@ use super::values::{
     assemble_number, check_number, count, expected, missing, number_text, Field, DEFAULT_TIMER,
     STORED_LENGTH, STORED_SERVICE,
 };
-use crate::paper::forms::{read_profile, with_length_and_version, Handling, Profile, Sense};
+use crate::paper::forms::{
+    with_length_and_version, Handling, Profile, Sense, LENGTH_COUNTS, NUMBER_COUNTS, SERVICE_COUNTS,
+};
 
 const FORM: &str = "profile continue|release TIMER [enabling|inhibiting NUMBER ..] \
     [length LENGTH ..] [service SERVICE ..] [forwarding enabling|inhibiting]";
-
-/// How many numbers, lengths and services a profile has at most.
-const MOST_NUMBERS: usize = 10;
-const MOST_LENGTHS: usize = 3;
-const MOST_SERVICES: usize = 5;
 
 type WordList<'a> = &'a [&'a str];
 
@@ -31,14 +28,10 @@ struct Parts<'a> {
 pub fn assemble_profile(words: &[&str], refused: bool) -> Result<Vec<u8>, String> {
     let parts = Parts::split(words)?;
     let bytes = parts.bytes()?;
-    if !refused && read_profile(&bytes).is_none() {
-        let fault = parts
-            .check()
-            .err()
-            .unwrap_or(expected("profile", &words.join(" "), FORM));
-        return Err(format!(
-            "{fault} (behind a profile that is to be refused stands `-> refused 2`)"
-        ));
+    if !refused {
+        parts.check().map_err(|fault| {
+            format!("{fault} (behind a profile that is to be refused stands `-> refused 2`)")
+        })?;
     }
     Ok(bytes)
 }
@@ -119,13 +112,13 @@ impl<'a> Parts<'a> {
                 field.check_well_formed(word)?;
             }
         }
-        for (name, list, most) in [
-            ("stored numbers", self.numbers, MOST_NUMBERS),
-            ("stored lengths", self.lengths, MOST_LENGTHS),
-            ("stored services", self.services, MOST_SERVICES),
+        for (name, list, counts) in [
+            ("stored numbers", self.numbers, NUMBER_COUNTS),
+            ("stored lengths", self.lengths, LENGTH_COUNTS),
+            ("stored services", self.services, SERVICE_COUNTS),
         ] {
-            if list.len() > most {
-                let most = format!("at most {most} of them");
+            if list.len() > usize::from(*counts.end()) {
+                let most = format!("at most {} of them", counts.end());
                 return Err(expected(name, &list.len().to_string(), &most));
             }
         }

@@ -27,9 +27,26 @@ pub struct Line {
     pub expected: Option<String>,
 }
 
+/// A text with its name, and what it stands for: a profile, then items.
+pub struct Scenario {
+    pub name: String,
+    pub text: String,
+    pub lines: Vec<Line>,
+}
+
+/// The scenario in a file. A message names the file, and the line if there is
+/// one.
+pub fn read_file(file: &str) -> Result<Scenario, String> {
+    let opened = File::open(file).map_err(|error| unreadable(file, &error))?;
+    let text = read_text(file, opened)?;
+    let lines = assemble(file, &text)?;
+    let name = file.to_string();
+    Ok(Scenario { name, text, lines })
+}
+
 /// The lines of a file.
 pub fn assemble_file(file: &str) -> Result<Vec<Line>, String> {
-    assemble(file, &read_file(file)?)
+    Ok(read_file(file)?.lines)
 }
 
 /// The lines of standard input.
@@ -41,12 +58,6 @@ pub fn assemble_input() -> Result<Vec<Line>, String> {
 /// The bytes of all the lines, as the listing program takes them.
 pub fn bytes_of(lines: &[Line]) -> Vec<u8> {
     lines.iter().flat_map(|line| line.bytes.clone()).collect()
-}
-
-/// The text of a file. A message names the file, and the line if there is one.
-pub fn read_file(file: &str) -> Result<String, String> {
-    let opened = File::open(file).map_err(|error| unreadable(file, &error))?;
-    read_text(file, opened)
 }
 
 fn read_text(name: &str, input: impl Read) -> Result<String, String> {
@@ -112,16 +123,25 @@ pub struct Written<'a> {
     pub content: &'a str,
     /// What stands behind `->`.
     pub expected: Option<&'a str>,
+    /// From `--` on.
+    pub comment: Option<&'a str>,
 }
 
 impl Written<'_> {
     pub fn new(line: &str) -> Written<'_> {
-        let (line, _comment) = line.split_once("--").unwrap_or((line, ""));
+        let (line, comment) = match line.find("--") {
+            Some(place) => (&line[..place], Some(&line[place..])),
+            None => (line, None),
+        };
         let (content, expected) = match line.split_once("->") {
             Some((content, expected)) => (content, Some(expected)),
             None => (line, None),
         };
-        Written { content, expected }
+        Written {
+            content,
+            expected,
+            comment,
+        }
     }
 }
 
@@ -211,10 +231,14 @@ fn no_line(words: &[&str], first: bool) -> String {
 
 /// One call, or the first and the last of several.
 fn read_calls(word: &str) -> Result<RangeInclusive<u32>, String> {
+    const RANGE: &str = "a range that rises, such as 1..64";
     let (first, last) = word.split_once("..").unwrap_or((word, word));
+    if first.is_empty() || last.is_empty() {
+        return Err(expected("calls", word, RANGE));
+    }
     let (first, last) = (CALL.number(first)?, CALL.number(last)?);
     if first > last {
-        return Err(expected("calls", word, "a range that rises, such as 1..64"));
+        return Err(expected("calls", word, RANGE));
     }
     if last - first >= MOST_CALLS {
         let most = format!("at most {MOST_CALLS} calls in a line");
@@ -239,6 +263,19 @@ fn check_whole(lines: &[Line]) -> Result<(), (usize, String)> {
         lengths = ITEM_LENGTHS;
     }
     Ok(())
+}
+
+/// How many items a listing answers, if the profile is not refused: up to the
+/// first with a length that no item has.
+pub fn answerable(lines: &[Line]) -> usize {
+    let ends = |line: &Line| {
+        length_field(&line.bytes).is_some_and(|length| !ITEM_LENGTHS.contains(&length))
+    };
+    let items = lines.get(1..).unwrap_or_default();
+    items
+        .iter()
+        .position(ends)
+        .map_or(items.len(), |place| place + 1)
 }
 
 fn length_field(bytes: &[u8]) -> Option<usize> {

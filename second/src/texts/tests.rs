@@ -3,6 +3,7 @@
 
 use super::answers::is_answer;
 use super::{assemble, bytes_of, explain};
+use crate::paper::forms::read_profile;
 
 /// The message for a text with this line behind a profile.
 fn message(line: &str) -> String {
@@ -50,6 +51,44 @@ fn malformed_items_can_be_written() {
         "0 call 1 request-report",
     ] {
         assert_eq!(message(line), "none");
+    }
+}
+
+/// A profile in words is refused a place exactly where it is malformed, and is
+/// given one where it is to be refused.
+#[test]
+fn malformed_profiles() {
+    let numbers = |count: usize| " 4/1".repeat(count);
+    for profile in [
+        "profile continue 9".to_string(),
+        "profile continue 10".to_string(),
+        "profile continue 180".to_string(),
+        "profile continue 181".to_string(),
+        "profile continue 60 4/1".to_string(),
+        "profile continue 60 length 7".to_string(),
+        "profile continue 60 enabling".to_string(),
+        "profile continue 60 enabling service 7".to_string(),
+        format!("profile continue 60 enabling{}", numbers(10)),
+        format!("profile continue 60 enabling{}", numbers(11)),
+        "profile continue 60 enabling 127/1".to_string(),
+        "profile continue 60 enabling 128/1".to_string(),
+        "profile continue 60 enabling 4/".to_string(),
+        "profile continue 60 enabling 4/012345678901234".to_string(),
+        "profile continue 60 enabling 4/0123456789012345".to_string(),
+        "profile continue 60 enabling length 0".to_string(),
+        "profile continue 60 enabling length 1 15 15".to_string(),
+        "profile continue 60 enabling length 16".to_string(),
+        "profile continue 60 enabling length 1 2 3 4".to_string(),
+        "profile continue 60 service 0 1 2 3 255".to_string(),
+        "profile continue 60 service 0 1 2 3 4 5".to_string(),
+    ] {
+        let refused = assemble("x.txt", &format!("{profile} -> refused 2")).unwrap();
+        let is_malformed = read_profile(&refused[0].bytes).is_none();
+        assert_eq!(
+            assemble("x.txt", &profile).is_err(),
+            is_malformed,
+            "{profile}"
+        );
     }
 }
 

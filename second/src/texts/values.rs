@@ -6,7 +6,7 @@ use std::ops::RangeInclusive;
 
 /// The digits 0 to 14, as in TBCD-STRING.
 const DIGIT_CHARACTERS: &str = "0123456789*#abc";
-const DIGITS_EXPECTED: &str = "digits out of 0 to 9, *, #, a, b, c";
+const DIGIT_RANGE: &str = "0 to 9, *, #, a, b, c";
 
 /// The longest word that a message repeats whole.
 const LONGEST_QUOTED: usize = 80;
@@ -135,8 +135,9 @@ fn bounds(range: &RangeInclusive<u64>) -> String {
 /// A called number: nature, digit count and digits.
 pub fn assemble_number(word: &str) -> Result<Vec<u8>, String> {
     let (nature, digits) = split_number(word)?;
-    let digits = assemble_digits("digits", digits)?;
     let nature = NATURE.bytes(nature)?;
+    let unexpected = || expected("digits", digits, &format!("digits out of {DIGIT_RANGE}"));
+    let digits = digits_in(digits).ok_or_else(unexpected)?;
     Ok([nature, vec![count("digits", digits.len())?], digits].concat())
 }
 
@@ -166,17 +167,16 @@ pub fn number_text(nature: u8, digits: &[u8]) -> String {
 }
 
 pub fn assemble_digit(word: &str) -> Result<Vec<u8>, String> {
-    match assemble_digits("digit", word) {
-        Ok(digits) if digits.len() == 1 => Ok(digits),
-        _ => Err(expected("digit", word, "one of 0 to 9, *, #, a, b, c")),
+    match digits_in(word) {
+        Some(digits) if digits.len() == 1 => Ok(digits),
+        _ => Err(expected("digit", word, &format!("one of {DIGIT_RANGE}"))),
     }
 }
 
-fn assemble_digits(field: &str, word: &str) -> Result<Vec<u8>, String> {
+fn digits_in(word: &str) -> Option<Vec<u8>> {
     word.chars()
         .map(|character| DIGIT_CHARACTERS.find(character).map(|place| place as u8))
-        .collect::<Option<Vec<u8>>>()
-        .ok_or_else(|| expected(field, word, DIGITS_EXPECTED))
+        .collect()
 }
 
 pub fn digit_character(digit: u8) -> char {
@@ -220,7 +220,7 @@ pub fn missing(field: &str, what: &str) -> String {
 }
 
 /// A word with nothing in it that could disturb the message.
-fn quoted(word: &str) -> String {
+pub fn quoted(word: &str) -> String {
     let mut text: String = word.chars().take(LONGEST_QUOTED).collect();
     if text.len() < word.len() {
         text += "..";
