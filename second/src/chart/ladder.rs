@@ -184,7 +184,7 @@ impl<'a> Chart<'a> {
         Chart {
             title: played.title.as_deref(),
             profile: match read_profile(&played.profile) {
-                Some(profile) => words::profile(&profile),
+                Some(profile) => format!("Profile: {}", words::profile(&profile)),
                 None => format!("Profile: {}.", words::refusal(Refusal::ProfileMalformed)),
             },
             ladders: drawn.map(|call| Ladder::of(*call, steps)).collect(),

@@ -12,6 +12,7 @@ pub struct Played {
     /// The comment before the items.
     pub title: Option<String>,
     pub profile: Vec<u8>,
+    profile_line: usize,
     pub steps: Vec<Step>,
     /// Where the listing ends, if something ends it.
     pub end: Option<End>,
@@ -56,15 +57,16 @@ impl Played {
     /// Each line of a scenario is one item by itself, after the profile.
     pub fn of(scenario: &Scenario) -> Played {
         let written: Vec<&str> = scenario.text.lines().collect();
-        let (profile, items) = match &scenario.lines[..] {
-            [profile, items @ ..] => (profile.bytes.clone(), items),
-            [] => (vec![], &[][..]),
+        let (profile, profile_line, items) = match &scenario.lines[..] {
+            [profile, items @ ..] => (profile.bytes.clone(), profile.number, items),
+            [] => (vec![], 0, &[][..]),
         };
         let mut comments = Comments::of(&written);
         let first = items.first().map_or(usize::MAX, |line| line.number);
         let mut played = Played {
             title: comments.before(first),
             profile,
+            profile_line,
             steps: Vec::new(),
             end: None,
         };
@@ -97,9 +99,16 @@ impl Played {
     }
 
     /// The line of the text that is answered in this line of the listing, which
-    /// begins with a header in line 0.
+    /// begins with a header in line 0. A profile is answered if it is refused.
     pub fn line_of_answer(&self, place: usize) -> Option<usize> {
-        self.steps.get(place.checked_sub(1)?).map(|step| step.line)
+        let refused = self
+            .end
+            .as_ref()
+            .is_some_and(|end| end.cause == Cause::Profile);
+        match place.checked_sub(1)? {
+            0 if refused => Some(self.profile_line),
+            place => self.steps.get(place).map(|step| step.line),
+        }
     }
 }
 

@@ -228,12 +228,12 @@ pub fn refusal(refusal: Refusal) -> String {
 /// The profile as sentences.
 pub fn profile(profile: &Profile) -> String {
     let handling = match profile.default_handling {
-        Handling::Continue => "if the service node aborts, the call goes on",
-        Handling::Release => "if the service node aborts, the call is released",
+        Handling::Continue => "If the service node aborts, the call goes on.",
+        Handling::Release => "If the service node aborts, the call is released.",
     };
     let timer = profile.default_timer.0;
     let triggers = triggering(profile);
-    format!("Profile: {triggers}; {handling}; the default no-answer timer is {timer} s.")
+    format!("{triggers}. {handling} The default no-answer timer is {timer} s.")
 }
 
 /// All criteria must hold; an inhibiting one reads best as an exception.
@@ -256,8 +256,11 @@ fn triggering(profile: &Profile) -> String {
         Sense::Inhibiting => conditions.push("it is not forwarded".to_string()),
     }
     match conditions.is_empty() {
-        true => format!("every call triggers{exception}"),
-        false => format!("a call triggers if {}{exception}", conditions.join(" and ")),
+        true => format!("Every call triggers{exception}"),
+        false => format!(
+            "A call triggers if {}{exception}",
+            conditions.join(", and ")
+        ),
     }
 }
 
