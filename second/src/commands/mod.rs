@@ -86,7 +86,7 @@ const GROUPS: [(&str, &[Command]); 7] = [
         }],
     ),
     (
-        "Scenarios as text: a profile and items in words (src/texts/text.rs shows an example)",
+        "Scenarios as text: a profile and items in words (src/texts/text.rs shows an\nexample)",
         &[
             Command {
                 name: "assemble",

@@ -415,11 +415,11 @@ fn difference(before: &[Entry], case: &Case, theirs: &[u8], ours: &[u8]) -> Stri
     text
 }
 
-/// An entry in words; one that is none, in hex.
+/// An entry in words; in hex if it is none, or is not the one that its words say.
 fn entry_text(their: &[u8], our: &[u8]) -> String {
     match read_entry(their) {
-        Some(entry) if their.len() == ENTRY_BYTES => format!("{entry:?}"),
-        _ => format!("not an entry: {}", shown::hex_from_difference(their, our)),
+        Some(entry) if their == our || Some(entry) != read_entry(our) => format!("{entry:?}"),
+        _ => shown::hex_from_difference(their, our),
     }
 }
 

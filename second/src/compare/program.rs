@@ -10,7 +10,6 @@ use std::fmt::Display;
 use std::io::{self, BufRead, BufReader, BufWriter, ErrorKind, Read, Write};
 use std::os::fd::OwnedFd;
 use std::os::unix::net::{UnixDatagram, UnixStream};
-use std::os::unix::process::ExitStatusExt;
 use std::process::{Child, Command, ExitStatus, Stdio};
 use std::sync::atomic::{AtomicU64, Ordering};
 use std::sync::Arc;
@@ -26,7 +25,8 @@ pub const LONGEST_PIECE: usize = 4096;
 /// listing of a scenario and no answer to a case comes near it.
 const LONGEST_OUTPUT: usize = 16 << 20;
 
-const SIGKILL: i32 = 9;
+/// So often it is looked without a pause whether a program has ended.
+const SOON: u32 = 100;
 
 const DID_NOT_END: &str = "did not end";
 const GAVE_NO_ANSWER: &str = "gave no answer";
@@ -83,7 +83,9 @@ impl Program<'_> {
                 write(&mut input).and_then(|()| input.flush())
             });
             let result = read(&mut answers);
-            answers.end(result)
+            // It may go on, if more was answered than was read.
+            answers.running().kill();
+            result
         })
     }
 
@@ -232,29 +234,33 @@ impl Running {
     /// Waits for the end of the program, after that of its output: mostly there
     /// is little between them.
     fn wait(&mut self) -> io::Result<ExitStatus> {
-        let mut pause = Duration::from_micros(10);
-        loop {
+        for looks in 0.. {
             if let Some(status) = self.child.try_wait()? {
                 return Ok(status);
             }
-            if Instant::now() >= self.deadline {
-                return Err(ErrorKind::TimedOut.into());
+            if looks < SOON {
+                thread::yield_now();
+            } else if Instant::now() < self.deadline {
+                thread::sleep(Duration::from_millis(1));
+            } else {
+                break;
             }
-            thread::sleep(pause);
-            pause = (pause * 2).min(Duration::from_millis(20));
         }
+        Err(ErrorKind::TimedOut.into())
     }
 
     /// Kills the program, and says why; `late` says what it has not done in time.
     fn give_up(&mut self, error: io::Error, late: &str) -> String {
-        let status = self.kill();
+        let killed = self.kill();
         let limit = self.limit.as_secs();
         match error.kind() {
-            ErrorKind::TimedOut if status.is_some_and(ended_by_itself) => format!(
+            ErrorKind::TimedOut if killed => {
+                format!("{late} within {limit} s (--limit), and was killed")
+            }
+            ErrorKind::TimedOut => format!(
                 "has ended, but something that it started \
                  kept its output open for {limit} s (--limit)"
             ),
-            ErrorKind::TimedOut => format!("{late} within {limit} s (--limit), and was killed"),
             ErrorKind::FileTooLarge => {
                 format!("has written more than {LONGEST_OUTPUT} bytes, and was killed")
             }
@@ -262,22 +268,22 @@ impl Running {
         }
     }
 
-    /// Kills the program and what it has started, and gives its status. It could
-    /// be made the leader of a group, which is killed more surely; but then an
-    /// interrupt from the terminal would end this program alone.
-    fn kill(&mut self) -> Option<ExitStatus> {
+    /// Kills the program and what it has started; false if it had ended already.
+    /// It could be made the leader of a group, which is killed more surely; but
+    /// then an interrupt from the terminal would end this program alone.
+    fn kill(&mut self) -> bool {
+        if let Ok(Some(_)) = self.child.try_wait() {
+            return false;
+        }
         let started = started_by(self.child.id());
         let _ = self.child.kill();
         if !started.is_empty() {
             kill_all(&started);
         }
         self.set_deadline();
-        self.wait().ok()
+        let _ = self.wait();
+        true
     }
-}
-
-fn ended_by_itself(status: ExitStatus) -> bool {
-    status.signal() != Some(SIGKILL)
 }
 
 /// The processes that a process has started, those that they have started, and
@@ -307,10 +313,8 @@ fn kill_all(processes: &[u32]) {
 pub struct Answers<'a> {
     program: Program<'a>,
     output: BufReader<Running>,
-    /// Which answer is read.
-    number: u64,
-    /// The first answer that did not come, since the output had ended.
-    missing: Option<u64>,
+    /// The case whose answer is read, or was read last.
+    case: u64,
 }
 
 impl<'a> Answers<'a> {
@@ -318,75 +322,64 @@ impl<'a> Answers<'a> {
         Answers {
             program,
             output: BufReader::new(running),
-            number: 0,
-            missing: None,
+            case: 0,
         }
     }
 
     /// What is read from now on is the answer to this case. It has its own time,
     /// and its own room.
-    pub fn begin(&mut self, number: u64) {
-        self.number = number;
+    pub fn begin(&mut self, case: u64) {
+        self.case = case;
         self.running().set_deadline();
         self.running().room = LONGEST_OUTPUT;
     }
 
-    /// Reads a line with its end, or what is left of the output.
+    /// Reads a line with its end, or what is left of the output. If that is
+    /// nothing, the program has to have ended well.
     pub fn line(&mut self, bytes: &mut Vec<u8>) -> Result<(), String> {
         match self.output.read_until(b'\n', bytes) {
-            Ok(0) => self.missing = self.missing.or(Some(self.number)),
-            Ok(_) => {}
-            Err(error) => return Err(self.no_answer(error)),
+            Ok(0) => self.wait("on"),
+            Ok(_) => Ok(()),
+            Err(error) => Err(self.give_up("on", error, GAVE_NO_ANSWER)),
         }
-        Ok(())
     }
 
     /// Reads so many bytes, or what is left of the output.
     pub fn bytes(&mut self, count: usize, bytes: &mut Vec<u8>) -> Result<(), String> {
         let read = self.output.by_ref().take(count as u64).read_to_end(bytes);
-        read.map(drop).map_err(|error| self.no_answer(error))
+        read.map(drop)
+            .map_err(|error| self.give_up("on", error, GAVE_NO_ANSWER))
     }
 
-    /// Whether the output ends after the last answer.
+    /// Whether the last answer was all; then the program has to end well.
     pub fn is_at_end(&mut self) -> Result<bool, String> {
         self.running().set_deadline();
-        let rest = self.output.fill_buf();
-        rest.map(<[u8]>::is_empty)
-            .map_err(|error| self.no_end(error))
+        match self.output.fill_buf().map(<[u8]>::is_empty) {
+            Ok(true) => self.wait("after").map(|()| true),
+            Ok(false) => Ok(false),
+            Err(error) => Err(self.give_up("after", error, DID_NOT_END)),
+        }
     }
 
-    /// Ends the program, whether its answers were read or something went wrong.
-    fn end<T>(&mut self, result: Result<T, String>) -> Result<T, String> {
-        if result.is_err() || !self.is_at_end()? {
-            self.running().kill();
-            return result;
-        }
+    fn wait(&mut self, when: &str) -> Result<(), String> {
         match self.running().wait() {
-            Ok(status) if status.success() => result,
-            Ok(status) => Err(self.failed(status)),
-            Err(error) => Err(self.no_end(error)),
+            Ok(status) if status.success() => Ok(()),
+            Ok(status) => Err(self.message(when, status.to_string())),
+            Err(error) => Err(self.give_up(when, error, DID_NOT_END)),
         }
+    }
+
+    fn give_up(&mut self, when: &str, error: io::Error, late: &str) -> String {
+        let fault = self.running().give_up(error, late);
+        self.message(when, fault)
+    }
+
+    fn message(&self, when: &str, fault: String) -> String {
+        let place = format_args!("{when} case {}", self.case);
+        self.program.message(place, fault)
     }
 
     fn running(&mut self) -> &mut Running {
         self.output.get_mut()
-    }
-
-    fn no_answer(&mut self, error: io::Error) -> String {
-        let fault = self.running().give_up(error, GAVE_NO_ANSWER);
-        self.program
-            .message(format_args!("on case {}", self.number), fault)
-    }
-
-    fn no_end(&mut self, error: io::Error) -> String {
-        let fault = self.running().give_up(error, DID_NOT_END);
-        self.program
-            .message(format_args!("after case {}", self.number), fault)
-    }
-
-    fn failed(&self, status: ExitStatus) -> String {
-        let number = self.missing.unwrap_or(self.number);
-        self.program
-            .message(format_args!("on case {number}"), status.to_string())
     }
 }

@@ -3,6 +3,8 @@
 
 /// So many bytes are shown of a line.
 const LONGEST: usize = 200;
+/// And so many in hex.
+const LONGEST_HEX: usize = 16;
 
 /// A line of a listing, without its end; or that there is none.
 pub fn line(line: Option<&[u8]>) -> String {
@@ -26,25 +28,26 @@ pub fn text(bytes: &[u8]) -> String {
     }
 }
 
-/// Bytes in hex, from the first that differs from those expected.
+/// Bytes in hex, beside those expected, from the first that differs.
 pub fn hex_from_difference(bytes: &[u8], expected: &[u8]) -> String {
-    const SHOWN: usize = 16;
-    let same = bytes.iter().zip(expected).take_while(|(a, b)| a == b);
-    let offset = same.count();
-    let part = |bytes: &[u8]| {
-        let shown = bytes.iter().skip(offset).take(SHOWN);
-        let shown: Vec<String> = shown.map(|byte| format!("{byte:02X}")).collect();
-        match shown.is_empty() {
-            true => "nothing".to_string(),
-            false => shown.join(" "),
-        }
-    };
-    format!(
-        "{} bytes, from byte {offset} on {}, where ours has {}",
-        bytes.len(),
-        part(bytes),
-        part(expected)
-    )
+    let pairs = bytes.iter().zip(expected);
+    let offset = pairs
+        .take_while(|(byte, expected)| byte == expected)
+        .count();
+    let [shown, expected] = [bytes, expected].map(|bytes| hex(&bytes[offset..]));
+    let length = bytes.len();
+    format!("{length} bytes, from byte {offset} on: {shown}; expected there: {expected}")
+}
+
+fn hex(bytes: &[u8]) -> String {
+    let shown = bytes.iter().take(LONGEST_HEX);
+    let mut words: Vec<String> = shown.map(|byte| format!("{byte:02X}")).collect();
+    match bytes.len() {
+        0 => words.push("nothing".to_string()),
+        length if length > LONGEST_HEX => words.push("..".to_string()),
+        _ => {}
+    }
+    words.join(" ")
 }
 
 /// The first lines that are not the same, with their number, counted from 0:
