@@ -4,6 +4,9 @@
 //! as they land), in the most direct way, and run beside the proved program:
 //! where the two differ, the papers decide.
 
+// They would panic where they cannot write; `output` does not.
+#![deny(clippy::print_stdout, clippy::print_stderr)]
+
 mod bench;
 mod commands;
 mod compare;
@@ -34,7 +37,7 @@ fn main() -> ExitCode {
         Ok(true) => WELL,
         Ok(false) => DIFFERENCE,
         Err(error) => {
-            output::message(error);
+            output::complain(error);
             ERROR
         }
     };

@@ -8,7 +8,7 @@ use crate::output;
 use crate::paper::forms::write_item;
 use crate::paper::listing::frames;
 use crate::paper::table::{self, Entry, ENTRIES};
-use crate::texts::text;
+use crate::texts;
 use std::fs::{self, File};
 use std::path::{Path, PathBuf};
 use std::process::{self, Child, Command, Stdio};
@@ -74,12 +74,12 @@ const LIFE: [&str; 23] = [
 /// over them in turn, and at the end all are released.
 pub fn input(open: u32, items: usize) -> Result<Vec<u8>, String> {
     let mut run = Run::new()?;
-    let setup = text::assemble_body(SETUP)?;
-    let release = text::assemble_body("release")?;
-    let clear = text::assemble_body("clear leg 1 cause 16")?;
+    let setup = texts::assemble_body(SETUP)?;
+    let release = texts::assemble_body("release")?;
+    let clear = texts::assemble_body("clear leg 1 cause 16")?;
     let mut life = Vec::new();
     for item in LIFE {
-        life.push(text::assemble_body(item)?);
+        life.push(texts::assemble_body(item)?);
     }
     for call in 0..open {
         run.feed(&setup, call);
@@ -111,7 +111,7 @@ struct Run {
 
 impl Run {
     fn new() -> Result<Run, String> {
-        let profile = text::bytes_of(&text::assemble(PROFILE)?);
+        let profile = texts::bytes_of(&texts::assemble("profile", PROFILE)?);
         Ok(Run {
             bytes: profile.clone(),
             profile,

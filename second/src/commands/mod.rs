@@ -3,17 +3,19 @@
 //! and the running of commands are all made of this table.
 
 mod arguments;
+#[cfg(test)]
+mod tests;
 mod usage;
 
 use crate::bench::measure;
 use crate::compare::program::Program;
 use crate::compare::{
     check, chunks, compare_chunks, compare_listings, compare_tables, compare_triggers, coverage,
-    generate, tables, triggers,
+    generate, list, tables, triggers,
 };
 use crate::output;
 use crate::paper::listing;
-use crate::texts::text;
+use crate::texts::{self, Line};
 use arguments::Takes::{Choice, Maybe, One, Several};
 use arguments::{Argument, Expected, Given, Takes};
 use std::io::{self, BufReader, Read};
@@ -82,11 +84,11 @@ const GROUPS: [(&str, &[Command]); 7] = [
             takes: &[],
             streams: "< BYTES",
             does: "reads a profile and items, and lists an answer to each item",
-            run: |_| list(),
+            run: |_| run_listing(),
         }],
     ),
     (
-        "Scenarios as text: a profile and items in words (src/texts/text.rs shows an\nexample)",
+        "Scenarios as text: a profile and items in words (src/texts/mod.rs shows one)",
         &[
             Command {
                 name: "assemble",
@@ -94,7 +96,7 @@ const GROUPS: [(&str, &[Command]); 7] = [
                 streams: "> BYTES",
                 does: "makes of the text (FILE or standard input) the bytes that a listing \
                     program reads",
-                run: |given| write(&text::bytes_of(&assemble(given)?)),
+                run: |given| write(&texts::bytes_of(&assemble(given)?)),
             },
             Command {
                 name: "explain",
@@ -102,7 +104,15 @@ const GROUPS: [(&str, &[Command]); 7] = [
                 streams: "< BYTES",
                 does: "makes text of such bytes; what is malformed comes out as a line of \
                     bytes in hex",
-                run: |_| write(text::explain(&read_input()?).as_bytes()),
+                run: |_| write(texts::explain(&read_input()?).as_bytes()),
+            },
+            Command {
+                name: "list",
+                takes: &[One(PROGRAM), Several(FILE), Choice(LIMIT)],
+                streams: "",
+                does: "prints scenarios with the answers that the listing program PROGRAM \
+                    gives; where the text expects others, the line is marked",
+                run: |given| list::run(program(given), &given.words(FILE.name)),
             },
             Command {
                 name: "check",
@@ -144,7 +154,7 @@ const GROUPS: [(&str, &[Command]); 7] = [
         ],
     ),
     (
-        "Tables handed in whole, sound ones and damaged ones (src/compare/tables.rs has\nthe form)",
+        "Tables handed in whole, sound and damaged (src/compare/tables.rs has the form)",
         &[
             Command {
                 name: "tables",
@@ -313,7 +323,7 @@ fn seeds(given: &Given) -> Result<Range<u64>, String> {
     Ok(first..end)
 }
 
-fn list() -> Result<bool, String> {
+fn run_listing() -> Result<bool, String> {
     let mut input = BufReader::with_capacity(listing::BUFFER, io::stdin().lock());
     let mut output = io::stdout().lock();
     let listed = listing::run(&mut input, &mut output);
@@ -322,13 +332,10 @@ fn list() -> Result<bool, String> {
         .map_err(|error| format!("listing: {error}"))
 }
 
-fn assemble(given: &Given) -> Result<Vec<text::Line>, String> {
+fn assemble(given: &Given) -> Result<Vec<Line>, String> {
     match given.word(FILE.name) {
-        Some(file) => text::assemble_file(file),
-        None => {
-            let text = io::read_to_string(io::stdin());
-            text::assemble(&text.map_err(input_failed)?)
-        }
+        Some(file) => texts::assemble_file(file),
+        None => texts::assemble_input(),
     }
 }
 
@@ -348,10 +355,6 @@ fn bench(given: &Given) -> Result<bool, String> {
 fn read_input() -> Result<Vec<u8>, String> {
     let mut bytes = Vec::new();
     let read = io::stdin().lock().read_to_end(&mut bytes);
-    read.map_err(input_failed)?;
+    read.map_err(|error| format!("standard input: {error}"))?;
     Ok(bytes)
-}
-
-fn input_failed(error: io::Error) -> String {
-    format!("standard input: {error}")
 }

@@ -5,15 +5,15 @@ use crate::compare::program::Program;
 use crate::compare::shown;
 use crate::output;
 use crate::paper::listing;
-use crate::texts::text::{self, Line};
+use crate::texts::{self, Line};
 
 /// Checks all the files; true if every program says what the texts say.
 pub fn run(program: Program, files: &[&str]) -> Result<bool, String> {
     let mut items = 0;
     let mut differences = 0;
     for file in files {
-        let lines = text::assemble_file(file)?;
-        let input = text::bytes_of(&lines);
+        let lines = texts::assemble_file(file)?;
+        let input = texts::bytes_of(&lines);
         let theirs = program.output_of(file, &input)?;
         let ours = listing::of(&input);
         items += lines.len().saturating_sub(1);

@@ -14,7 +14,7 @@ use crate::output;
 use crate::paper::answer::Refusal;
 use crate::paper::feeder::{Feeder, ROOM};
 use crate::paper::forms::{write_item, ITEM_LENGTHS};
-use crate::texts::text;
+use crate::texts;
 use std::io::Write;
 use std::mem;
 use std::ops::Range;
@@ -48,7 +48,7 @@ const HELD_COUNTS: [u64; 14] = [
 ];
 
 fn item(text: &str) -> Vec<u8> {
-    let (kind, body) = text::assemble_body(text).expect("it is an item");
+    let (kind, body) = texts::assemble_body(text).expect("it is an item");
     write_item(kind, 7, 1000, &body)
 }
 

@@ -9,7 +9,7 @@ use crate::output;
 use crate::paper::forms::read_item;
 use crate::paper::listing;
 use crate::paper::listing::frames;
-use crate::texts::text;
+use crate::texts;
 use std::io::{self, BufReader, Read};
 use std::ops::Range;
 use std::sync::atomic::{AtomicBool, Ordering};
@@ -160,10 +160,10 @@ fn difference(scenario: &[u8], theirs: &[u8], ours: &[u8]) -> String {
     let frames = frames(scenario);
     let call = |frame: &&[u8]| read_item(frame).map(|item| item.call);
     let concerned = frames.get(number).map(call);
-    let mut text = text::explain_profile(frames.first().unwrap_or(&&[][..]));
+    let mut text = texts::explain_profile(frames.first().unwrap_or(&&[][..]));
     for item in frames.iter().take(number + 1).skip(1) {
         if Some(call(item)) == concerned {
-            text += &format!("\n{}", text::explain_item(item));
+            text += &format!("\n{}", texts::explain_item(item));
         }
     }
     let [their, our] = [their, our].map(shown::line);

@@ -14,7 +14,7 @@ use crate::paper::answer::Answer;
 use crate::paper::forms::{kind, read_item, Handling, Leg, Seconds, Tenths, TIME_END};
 use crate::paper::record::{Armings, CalledNumber, Charge, Mode, Point, Record, Stage};
 use crate::paper::table::{self, Entry, ENTRIES};
-use crate::texts::text;
+use crate::texts;
 use std::io::Write;
 use std::ops::Range;
 
@@ -399,8 +399,8 @@ fn difference(before: &[Entry], case: &Case, theirs: &[u8], ours: &[u8]) -> Stri
     let slot = (0..before.len()).find(differs).or_else(slot_of_call);
     let mut text = format!(
         "{}\n{}\n  theirs: {}\n  ours:   {}\n  {} entries",
-        text::explain_profile(&case.profile),
-        text::explain_item(&case.item),
+        texts::explain_profile(&case.profile),
+        texts::explain_item(&case.item),
         shown::line(their_line),
         shown::line(our_line),
         before.len()

@@ -18,7 +18,7 @@ use crate::compare::triggers::{
 use crate::output;
 use crate::paper::forms::{kind, with_length_and_version, write_item, Number, TIME_END};
 use crate::paper::trigger::{compare, compare_from_front, Compared};
-use crate::texts::text;
+use crate::texts;
 use std::ops::Range;
 
 /// The stored number of P6, and what is dialled.
@@ -231,7 +231,7 @@ pub fn run(program: Program, seeds: Range<u64>) -> Result<bool, String> {
         if let Some(difference) = compare_case(program, number, &case)? {
             differences += 1;
             if differences == 1 {
-                let (checks, round) = (case.checks, text::explain(&case.round));
+                let (checks, round) = (case.checks, texts::explain(&case.round));
                 output::line(format_args!(
                     "the first difference, case {number}, {checks} checks:\n{round}{difference}"
                 ))?;

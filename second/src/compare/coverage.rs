@@ -9,7 +9,7 @@ use crate::paper::forms::{read_item, read_profile, Body, Other};
 use crate::paper::listing::frames;
 use crate::paper::record::{Mode, Point, Record, Relationship, Stage};
 use crate::paper::table;
-use crate::texts::text;
+use crate::texts;
 use std::ops::Range;
 
 const MODES: [Option<Mode>; 3] = [None, Some(Mode::Interrupted), Some(Mode::Notify)];
@@ -178,9 +178,7 @@ fn count_role(counts: &mut Counts, before: &Record, body: &Body) {
             counts.count(event_form(point, mode, stage, before.hold.is_some()));
         }
         Body::Other(Other::Operation(operation)) => {
-            let text = text::operation_text(operation);
-            let name = text.split(' ').next().unwrap_or_default();
-            counts.count(operation_form(name, stage));
+            counts.count(operation_form(texts::operation_name(operation), stage));
         }
         Body::Other(Other::PeriodOver(_)) | Body::Setup(_) => {}
     }

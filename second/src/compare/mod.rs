@@ -16,9 +16,14 @@ pub mod triggers;
 pub mod counts;
 pub mod coverage;
 
-// The commands that compare.
+// The commands that compare and list.
 pub mod check;
 pub mod compare_chunks;
 pub mod compare_listings;
 pub mod compare_tables;
 pub mod compare_triggers;
+pub mod list;
+#[cfg(test)]
+mod program_tests;
+#[cfg(test)]
+mod tests;

@@ -51,7 +51,7 @@ impl Program<'_> {
             scope.spawn(move || (&socket).write_all(input));
             running.whole_output()
         });
-        output.map_err(|fault| self.message(format_args!("on {on}"), fault))
+        output.map_err(|fault| self.message(on, fault))
     }
 
     /// The same for an input that comes in pieces: one read of the program gives
@@ -63,7 +63,7 @@ impl Program<'_> {
             scope.spawn(|| send(&socket, pieces));
             running.whole_output()
         });
-        output.map_err(|fault| self.message(format_args!("on {on}"), fault))
+        output.map_err(|fault| self.message(on, fault))
     }
 
     /// Runs the program while one thread writes its input and this one reads its
@@ -128,8 +128,9 @@ impl Program<'_> {
         format!("{}: cannot be run: {error}", self.path)
     }
 
-    fn message(&self, place: impl Display, fault: String) -> String {
-        format!("{} {place}: {fault}", self.path)
+    /// What is said of the program when it was run on this.
+    pub fn message(&self, on: impl Display, fault: String) -> String {
+        format!("{}: {on}: {fault}", self.path)
     }
 }
 
@@ -338,9 +339,9 @@ impl<'a> Answers<'a> {
     /// nothing, the program has to have ended well.
     pub fn line(&mut self, bytes: &mut Vec<u8>) -> Result<(), String> {
         match self.output.read_until(b'\n', bytes) {
-            Ok(0) => self.wait("on"),
+            Ok(0) => self.wait("case"),
             Ok(_) => Ok(()),
-            Err(error) => Err(self.give_up("on", error, GAVE_NO_ANSWER)),
+            Err(error) => Err(self.give_up("case", error, GAVE_NO_ANSWER)),
         }
     }
 
@@ -348,34 +349,34 @@ impl<'a> Answers<'a> {
     pub fn bytes(&mut self, count: usize, bytes: &mut Vec<u8>) -> Result<(), String> {
         let read = self.output.by_ref().take(count as u64).read_to_end(bytes);
         read.map(drop)
-            .map_err(|error| self.give_up("on", error, GAVE_NO_ANSWER))
+            .map_err(|error| self.give_up("case", error, GAVE_NO_ANSWER))
     }
 
     /// Whether the last answer was all; then the program has to end well.
     pub fn is_at_end(&mut self) -> Result<bool, String> {
         self.running().set_deadline();
         match self.output.fill_buf().map(<[u8]>::is_empty) {
-            Ok(true) => self.wait("after").map(|()| true),
+            Ok(true) => self.wait("after case").map(|()| true),
             Ok(false) => Ok(false),
-            Err(error) => Err(self.give_up("after", error, DID_NOT_END)),
+            Err(error) => Err(self.give_up("after case", error, DID_NOT_END)),
         }
     }
 
-    fn wait(&mut self, when: &str) -> Result<(), String> {
+    fn wait(&mut self, place: &str) -> Result<(), String> {
         match self.running().wait() {
             Ok(status) if status.success() => Ok(()),
-            Ok(status) => Err(self.message(when, status.to_string())),
-            Err(error) => Err(self.give_up(when, error, DID_NOT_END)),
+            Ok(status) => Err(self.message(place, status.to_string())),
+            Err(error) => Err(self.give_up(place, error, DID_NOT_END)),
         }
     }
 
-    fn give_up(&mut self, when: &str, error: io::Error, late: &str) -> String {
+    fn give_up(&mut self, place: &str, error: io::Error, late: &str) -> String {
         let fault = self.running().give_up(error, late);
-        self.message(when, fault)
+        self.message(place, fault)
     }
 
-    fn message(&self, when: &str, fault: String) -> String {
-        let place = format_args!("{when} case {}", self.case);
+    fn message(&self, place: &str, fault: String) -> String {
+        let place = format_args!("{place} {}", self.case);
         self.program.message(place, fault)
     }
 

@@ -8,7 +8,7 @@
 use crate::bench::rounds::Rounds;
 use crate::paper::forms::{read_item, read_profile, Body, Number};
 use crate::paper::trigger::{compare, compare_from_front, compare_numbers, Compared};
-use crate::texts::text;
+use crate::texts;
 use std::fmt;
 use std::hint::black_box;
 
@@ -119,5 +119,5 @@ pub fn round(profile: &str, dialled: &[&str]) -> Result<Vec<u8>, String> {
     for number in dialled {
         text += &format!("\n0 call 1 setup {number} service 17");
     }
-    Ok(text::bytes_of(&text::assemble(&text)?))
+    Ok(texts::bytes_of(&texts::assemble("trigger checks", &text)?))
 }

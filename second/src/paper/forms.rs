@@ -69,9 +69,12 @@ const VERSION: u8 = 1;
 pub const NATURES: RangeInclusive<u8> = 0..=127;
 pub const DIGIT_COUNTS: RangeInclusive<u8> = 1..=15;
 pub const DIGITS: RangeInclusive<u8> = 0..=14;
-const CAUSES: RangeInclusive<u8> = 0..=127;
+pub const CAUSES: RangeInclusive<u8> = 0..=127;
 const ENTRY_COUNTS: RangeInclusive<u8> = 1..=10;
 const ENTRY_BYTES: usize = 5;
+pub const NUMBER_COUNTS: RangeInclusive<u8> = 0..=10;
+pub const LENGTH_COUNTS: RangeInclusive<u8> = 0..=3;
+pub const SERVICE_COUNTS: RangeInclusive<u8> = 0..=5;
 
 pub struct Item<'a> {
     pub call: u32,
@@ -97,6 +100,7 @@ pub enum Other<'a> {
     Operation(Operation<'a>),
 }
 
+#[allow(dead_code, reason = "no rule asks for causes and digits")]
 pub enum Event {
     RouteFailure { cause: u8 },
     Busy { cause: u8 },
@@ -248,8 +252,8 @@ pub fn read_profile(bytes: &[u8]) -> Option<Profile<'_>> {
         default_timer: Seconds(reader.byte()?.into()),
         number_sense: reader.sense()?,
         numbers: reader.numbers()?,
-        lengths: reader.counted(0..=3)?,
-        services: reader.counted(0..=5)?,
+        lengths: reader.counted(LENGTH_COUNTS)?,
+        services: reader.counted(SERVICE_COUNTS)?,
         forwarding: reader.sense()?,
     };
     reader.close()?;
@@ -332,7 +336,7 @@ impl<'a> Reader<'a> {
     }
 
     fn numbers(&mut self) -> Option<Vec<Number<'a>>> {
-        let count = self.byte_in(0..=10)?;
+        let count = self.byte_in(NUMBER_COUNTS)?;
         (0..count).map(|_| self.called_number()).collect()
     }
 

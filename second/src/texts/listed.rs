@@ -1,0 +1,255 @@
+//! A scenario's text with the answers that a program gives, which is a scenario
+//! again: written without answers and listed, it can be kept as a test.
+//!
+//! A listing adds marks, as comments: where an answer differs from the one that
+//! was expected, where there is none any more, and at the end what was counted.
+//! Marks of an earlier listing are left out, so that the listing of a listing is
+//! the same text.
+
+use super::scenario::{at, Line, Written};
+use std::collections::BTreeMap;
+
+const DIFFERS: &str = "-- DIFFERS, expected: ";
+const NO_ANSWER: &str = "-- no answer: ";
+const ENDED: &str = "the listing has ended";
+
+/// Where a text has no `->` yet, they stand behind its longest line, but no
+/// further to the right than this.
+const WIDEST: usize = 72;
+/// A column that a text uses is kept up to here.
+const WIDEST_OF_TEXT: usize = 200;
+const BEFORE_COMMENT: usize = 3;
+
+/// A listed scenario, and a message for each answer that is not as expected.
+pub struct Listed {
+    pub text: String,
+    pub differences: Vec<String>,
+}
+
+/// The profile or an item, with its answer. Without one, the profile is
+/// accepted, or the listing has ended before the item.
+type Answered<'a> = (&'a Line, Option<&'a str>);
+
+/// Puts the answers into the text.
+pub fn listed(name: &str, text: &str, answered: &[Answered]) -> Listed {
+    let mut listing = Listing {
+        name,
+        column: arrow_column(text),
+        ended: last_answered(answered),
+        text: String::new(),
+        differences: Vec::new(),
+    };
+    let mut rest = answered;
+    for (number, line) in numbered_lines(name, text) {
+        let here = |(item, _): &&Answered| item.number == number;
+        let (items, behind) = rest.split_at(rest.iter().take_while(here).count());
+        let is_profile = !items.is_empty() && rest.len() == answered.len();
+        rest = behind;
+        listing.push_line(line, items, is_profile);
+    }
+    let (items, differences) = (answered.len() - 1, listing.differences.len());
+    listing.push(&counts_line(items, differences));
+    Listed {
+        text: listing.text,
+        differences: listing.differences,
+    }
+}
+
+/// The line that stands before each of several scenarios.
+pub fn heading(name: &str) -> String {
+    format!("-- == {name}")
+}
+
+fn counts_line(items: usize, differences: usize) -> String {
+    format!("-- items: {items}, differences: {differences}")
+}
+
+fn is_counts_line(line: &str) -> bool {
+    let without_digits = line.replace(|letter: char| letter.is_ascii_digit(), "");
+    without_digits == counts_line(0, 0).replace('0', "")
+}
+
+/// The lines with their numbers, without heading and counts of an earlier
+/// listing. Lines may have been added behind the counts since.
+fn numbered_lines<'a>(name: &str, text: &'a str) -> impl Iterator<Item = (usize, &'a str)> {
+    let heading = heading(name);
+    let lines = (1..).zip(text.lines());
+    lines.filter(move |(number, line)| {
+        let is_heading = *number == 1 && *line == heading;
+        !is_heading && !is_counts_line(line)
+    })
+}
+
+/// The column of most `->` in the text. Those that only stand behind a long line
+/// do not count.
+fn arrow_column(text: &str) -> usize {
+    let written = || text.lines().map(Written::new);
+    let mut columns: BTreeMap<usize, usize> = BTreeMap::new();
+    for line in written().filter(|line| line.expected.is_some()) {
+        let column = width(line.content);
+        if line.content.ends_with("  ") && column <= WIDEST_OF_TEXT {
+            *columns.entry(column).or_default() += 1;
+        }
+    }
+    if let Some((column, _)) = columns.into_iter().max_by_key(|(_, count)| *count) {
+        return column;
+    }
+    let contents = written().map(|line| width(line.content.trim_end()));
+    // The profile has no answer to be lined up.
+    let items = contents.filter(|width| *width > 0).skip(1);
+    items.max().unwrap_or(0).min(WIDEST) + 1
+}
+
+fn width(text: &str) -> usize {
+    text.chars().count()
+}
+
+/// The line where the listing ended, if it has ended before the text.
+fn last_answered(answered: &[Answered]) -> usize {
+    let last = answered.iter().rfind(|(_, answer)| answer.is_some());
+    last.map_or(0, |(line, _)| line.number)
+}
+
+/// The listing as it is made, line after line.
+struct Listing<'a> {
+    name: &'a str,
+    column: usize,
+    ended: usize,
+    text: String,
+    differences: Vec<String>,
+}
+
+impl Listing<'_> {
+    fn push(&mut self, line: &str) {
+        self.text += line;
+        self.text += "\n";
+    }
+
+    /// A line with all its items: one row for those with the same answer.
+    fn push_line(&mut self, line: &str, items: &[Answered], is_profile: bool) {
+        if items.is_empty() {
+            return self.push(line);
+        }
+        let mut comment = user_comment(line);
+        for alike in items.chunk_by(|(_, one), (_, other)| one == other) {
+            let is_part = alike.len() < items.len();
+            let (line_of_row, answer) = alike[0];
+            let row = Row {
+                line: line_of_row,
+                is_profile,
+                calls: if is_part { calls_of(alike) } else { None },
+                answer,
+            };
+            if row.differs() {
+                let message = row.difference(self.ended);
+                self.differences
+                    .push(at(self.name, row.line.number, &message));
+            }
+            let content = row.content(Written::new(line).content.trim_end());
+            self.push_row(content, &row, comment.take());
+        }
+    }
+
+    /// The parts of a row, each in its column.
+    fn push_row(&mut self, content: String, row: &Row, comment: Option<(usize, &str)>) {
+        let mut text = content;
+        if let Some(answer) = row.answer {
+            text += &blanks(self.column.saturating_sub(width(&text)).max(1));
+            text += &format!("-> {answer}");
+        }
+        if let Some(mark) = row.mark() {
+            text += &blanks(BEFORE_COMMENT);
+            text += &mark;
+        }
+        if let Some((column, comment)) = comment {
+            let gap = column.saturating_sub(width(&text));
+            text += &blanks(if gap > 0 { gap } else { BEFORE_COMMENT });
+            text += comment;
+        }
+        self.push(&text);
+    }
+}
+
+fn blanks(count: usize) -> String {
+    " ".repeat(count)
+}
+
+/// Items of one line with the same answer.
+struct Row<'a> {
+    line: &'a Line,
+    is_profile: bool,
+    /// Their calls, where they are a part of the line's range.
+    calls: Option<String>,
+    answer: Option<&'a str>,
+}
+
+impl Row<'_> {
+    /// A line without `->` expects nothing; but a profile without it is expected
+    /// to be accepted.
+    fn differs(&self) -> bool {
+        let expected = self.line.expected.as_deref();
+        expected != self.answer && (expected.is_some() || self.is_profile)
+    }
+
+    fn has_ended(&self) -> bool {
+        self.answer.is_none() && !self.is_profile
+    }
+
+    fn expected(&self) -> &str {
+        self.line.expected.as_deref().unwrap_or("no refusal")
+    }
+
+    fn mark(&self) -> Option<String> {
+        match (self.differs(), self.has_ended()) {
+            (true, true) => Some(format!("{DIFFERS}{}; {ENDED}", self.expected())),
+            (true, false) => Some(format!("{DIFFERS}{}", self.expected())),
+            (false, true) => Some(format!("{NO_ANSWER}{ENDED}")),
+            (false, false) => None,
+        }
+    }
+
+    /// The message about the difference; the listing may have ended before.
+    fn difference(&self, ended: usize) -> String {
+        let answered = match self.answer {
+            Some(answer) => answer.to_string(),
+            None if self.is_profile => "nothing: the profile is accepted".to_string(),
+            None => format!("nothing: {ENDED} in line {ended}"),
+        };
+        let message = format!("expected {}, answered {answered}", self.expected());
+        match &self.calls {
+            Some(calls) => format!("call {calls}: {message}"),
+            None => message,
+        }
+    }
+
+    /// What the line says, of the row's calls alone. The calls are the third
+    /// word, and the first in which `..` can stand.
+    fn content(&self, whole: &str) -> String {
+        match (&self.calls, whole.split_whitespace().nth(2)) {
+            (Some(calls), Some(range)) => whole.replacen(range, calls, 1),
+            _ => whole.to_string(),
+        }
+    }
+}
+
+/// The comment behind a line and its column, without the mark of an earlier
+/// listing.
+fn user_comment(line: &str) -> Option<(usize, &str)> {
+    let mut comment = Written::new(line).comment?;
+    for mark in [DIFFERS, NO_ANSWER] {
+        if let Some(behind) = comment.strip_prefix(mark) {
+            comment = &behind[behind.find("--")?..];
+        }
+    }
+    let before = &line[..line.len() - comment.len()];
+    Some((width(before), comment))
+}
+
+/// The calls of a row, as they are written.
+fn calls_of(row: &[Answered]) -> Option<String> {
+    let (first, last) = (row.first()?.0.call?, row.last()?.0.call?);
+    Some(match first == last {
+        true => first.to_string(),
+        false => format!("{first}..{last}"),
+    })
+}

@@ -1,0 +1,184 @@
+//! A profile in words, from words to bytes and back.
+
+use super::values::{
+    assemble_number, check_number, count, expected, missing, number_text, too_many, Field,
+    DEFAULT_TIMER, STORED_LENGTH, STORED_SERVICE,
+};
+use crate::paper::forms::{
+    with_length_and_version, Handling, Profile, Sense, LENGTH_COUNTS, NUMBER_COUNTS, SERVICE_COUNTS,
+};
+
+pub const FORM: &str = "profile continue|release TIMER [enabling|inhibiting NUMBER ..] \
+    [length LENGTH ..] [service SERVICE ..] [forwarding enabling|inhibiting]";
+
+type WordList<'a> = &'a [&'a str];
+
+/// The words of a profile, each where it belongs.
+struct Parts<'a> {
+    handling: u8,
+    timer: &'a str,
+    sense: u8,
+    numbers: WordList<'a>,
+    lengths: WordList<'a>,
+    services: WordList<'a>,
+    forwarding: u8,
+}
+
+/// The bytes of a profile; of a malformed one only where it is to be refused.
+pub fn assemble_profile(words: &[&str], refused: bool) -> Result<Vec<u8>, String> {
+    let parts = Parts::split(words)?;
+    let bytes = parts.bytes()?;
+    if !refused {
+        parts.check().map_err(|fault| {
+            format!("{fault} (behind a profile that is to be refused stands `-> refused 2`)")
+        })?;
+    }
+    Ok(bytes)
+}
+
+impl<'a> Parts<'a> {
+    fn split(words: WordList<'a>) -> Result<Parts<'a>, String> {
+        const HANDLINGS: &str = "continue or release";
+        let (handling, words) = match words {
+            ["continue", words @ ..] => (0, words),
+            ["release", words @ ..] => (1, words),
+            [other, ..] => return Err(expected("default handling", other, HANDLINGS)),
+            [] => return Err(missing("default handling", HANDLINGS)),
+        };
+        let [timer, words @ ..] = words else {
+            return Err(DEFAULT_TIMER.missing());
+        };
+        let (sense, words) = match words {
+            ["enabling", words @ ..] => (1, words),
+            ["inhibiting", words @ ..] => (2, words),
+            words => (0, words),
+        };
+        let (numbers, words) = split_before_keyword(words);
+        let (lengths, words) = take_list("length", words);
+        let (services, words) = take_list("service", words);
+        let forwarding = match words {
+            [] => 0,
+            ["forwarding", "enabling"] => 1,
+            ["forwarding", "inhibiting"] => 2,
+            _ => return Err(expected("end of the profile", &words.join(" "), FORM)),
+        };
+        Ok(Parts {
+            handling,
+            timer,
+            sense,
+            numbers,
+            lengths,
+            services,
+            forwarding,
+        })
+    }
+
+    /// Whatever fits into the fields.
+    fn bytes(&self) -> Result<Vec<u8>, String> {
+        let mut content = vec![self.handling];
+        content.extend(DEFAULT_TIMER.bytes(self.timer)?);
+        content.push(self.sense);
+        content.push(count("stored numbers", self.numbers.len())?);
+        for number in self.numbers {
+            content.extend(assemble_number(number)?);
+        }
+        for (name, list, field) in self.lists() {
+            content.push(count(name, list.len())?);
+            for word in list {
+                content.extend(field.bytes(word)?);
+            }
+        }
+        content.push(self.forwarding);
+        if content.len() > usize::from(u16::MAX) - 3 {
+            let length = content.len().to_string();
+            return Err(expected("length of the profile", &length, "at most 65532"));
+        }
+        Ok(with_length_and_version(&content))
+    }
+
+    /// What is malformed, by document 01.
+    fn check(&self) -> Result<(), String> {
+        DEFAULT_TIMER.check_well_formed(self.timer)?;
+        for number in self.numbers {
+            check_number(number)?;
+        }
+        for (_, list, field) in self.lists() {
+            for word in list {
+                field.check_well_formed(word)?;
+            }
+        }
+        for (name, list, counts) in [
+            ("stored numbers", self.numbers, NUMBER_COUNTS),
+            ("stored lengths", self.lengths, LENGTH_COUNTS),
+            ("stored services", self.services, SERVICE_COUNTS),
+        ] {
+            if list.len() > usize::from(*counts.end()) {
+                return Err(too_many(name, list.len(), *counts.end()));
+            }
+        }
+        match (self.sense, [self.numbers, self.lengths].concat().first()) {
+            (0, Some(word)) => Err(expected(
+                "stored number or length",
+                word,
+                "enabling or inhibiting before it",
+            )),
+            (1.., None) => Err(missing(
+                "stored number or length",
+                "one behind enabling or inhibiting",
+            )),
+            _ => Ok(()),
+        }
+    }
+
+    fn lists(&self) -> [(&'static str, WordList<'a>, Field); 2] {
+        [
+            ("stored lengths", self.lengths, STORED_LENGTH),
+            ("stored services", self.services, STORED_SERVICE),
+        ]
+    }
+}
+
+fn split_before_keyword<'a>(words: WordList<'a>) -> (WordList<'a>, WordList<'a>) {
+    let is_keyword = |word: &&str| ["length", "service", "forwarding"].contains(word);
+    words.split_at(words.iter().position(is_keyword).unwrap_or(words.len()))
+}
+
+fn take_list<'a>(keyword: &str, words: WordList<'a>) -> (WordList<'a>, WordList<'a>) {
+    match words {
+        [first, rest @ ..] if *first == keyword => split_before_keyword(rest),
+        _ => (&[], words),
+    }
+}
+
+pub fn profile_text(profile: &Profile) -> String {
+    let handling = match profile.default_handling {
+        Handling::Continue => "continue",
+        Handling::Release => "release",
+    };
+    let mut text = format!("profile {handling} {}", profile.default_timer.0);
+    text += sense_text(profile.number_sense);
+    for number in &profile.numbers {
+        text += &format!(" {}", number_text(number.nature, number.digits));
+    }
+    for (keyword, list) in [("length", profile.lengths), ("service", profile.services)] {
+        if !list.is_empty() {
+            text += &format!(" {keyword}");
+        }
+        for value in list {
+            text += &format!(" {value}");
+        }
+    }
+    if profile.forwarding != Sense::Absent {
+        text += " forwarding";
+        text += sense_text(profile.forwarding);
+    }
+    text
+}
+
+fn sense_text(sense: Sense) -> &'static str {
+    match sense {
+        Sense::Absent => "",
+        Sense::Enabling => " enabling",
+        Sense::Inhibiting => " inhibiting",
+    }
+}
