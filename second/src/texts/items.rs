@@ -143,9 +143,8 @@ fn parts(form: &str) -> (Vec<&str>, Vec<&str>) {
 /// The bytes of words that are written in the form.
 fn assemble_words(what: &str, form: &str, words: &[&str]) -> Result<Vec<u8>, String> {
     let (always, option) = parts(form);
-    let (behind_always, given) = words.split_at(words.len().min(always.len()));
-    let fits =
-        is_written(&always, behind_always) && (given.is_empty() || is_written(&option, given));
+    let (first, given) = words.split_at(words.len().min(always.len()));
+    let fits = is_written(&always, first) && (given.is_empty() || is_written(&option, given));
     if !fits {
         return Err(misshapen(what, form, words));
     }
@@ -294,11 +293,13 @@ fn all_names() -> String {
 
 /// So many slips of the keyboard can lie between a word and its typo.
 const NEAR: usize = 2;
+/// Longer words are not near to any name.
+const LONGEST_NEAR: usize = 20;
 
 /// How many letters have to be put in, left out or replaced to make one word of
 /// the other.
 fn distance(from: &str, to: &str) -> usize {
-    let to: Vec<char> = to.chars().take(LONGEST_NAME).collect();
+    let to: Vec<char> = to.chars().take(LONGEST_NEAR).collect();
     // The distances of what is read of `from` to each beginning of `to`.
     let mut distances: Vec<usize> = (0..=to.len()).collect();
     for (place, letter) in from.chars().enumerate() {
@@ -312,6 +313,3 @@ fn distance(from: &str, to: &str) -> usize {
     }
     distances[to.len()]
 }
-
-/// Longer words are not near to any name.
-const LONGEST_NAME: usize = 20;

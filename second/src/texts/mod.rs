@@ -34,7 +34,7 @@ pub use explain::{explain, explain_item, explain_profile};
 pub use items::{assemble_body, operation_name};
 pub use listed::{heading, listed, Listed};
 pub use scenario::{
-    answerable, assemble, assemble_file, assemble_input, at, bytes_of, read_file, Line, Scenario,
+    answerable, assemble, assemble_file, assemble_input, bytes_of, read_file, Line, Scenario,
     Written,
 };
 pub use values::{digit_character, hex_text, quoted};

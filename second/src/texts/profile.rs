@@ -1,14 +1,14 @@
 //! A profile in words, from words to bytes and back.
 
 use super::values::{
-    assemble_number, check_number, count, expected, missing, number_text, Field, DEFAULT_TIMER,
-    STORED_LENGTH, STORED_SERVICE,
+    assemble_number, check_number, count, expected, missing, number_text, too_many, Field,
+    DEFAULT_TIMER, STORED_LENGTH, STORED_SERVICE,
 };
 use crate::paper::forms::{
     with_length_and_version, Handling, Profile, Sense, LENGTH_COUNTS, NUMBER_COUNTS, SERVICE_COUNTS,
 };
 
-const FORM: &str = "profile continue|release TIMER [enabling|inhibiting NUMBER ..] \
+pub const FORM: &str = "profile continue|release TIMER [enabling|inhibiting NUMBER ..] \
     [length LENGTH ..] [service SERVICE ..] [forwarding enabling|inhibiting]";
 
 type WordList<'a> = &'a [&'a str];
@@ -34,11 +34,6 @@ pub fn assemble_profile(words: &[&str], refused: bool) -> Result<Vec<u8>, String
         })?;
     }
     Ok(bytes)
-}
-
-/// How the first line of a scenario is written.
-pub fn missing_profile() -> String {
-    missing("profile", FORM)
 }
 
 impl<'a> Parts<'a> {
@@ -118,8 +113,7 @@ impl<'a> Parts<'a> {
             ("stored services", self.services, SERVICE_COUNTS),
         ] {
             if list.len() > usize::from(*counts.end()) {
-                let most = format!("at most {} of them", counts.end());
-                return Err(expected(name, &list.len().to_string(), &most));
+                return Err(too_many(name, list.len(), *counts.end()));
             }
         }
         match (self.sense, [self.numbers, self.lengths].concat().first()) {

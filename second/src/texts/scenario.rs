@@ -2,7 +2,7 @@
 
 use super::answers::{self, is_answer, PROFILE_REFUSED};
 use super::items::{assemble_item, SMALL_LETTERS};
-use super::profile::{assemble_profile, missing_profile};
+use super::profile::{self, assemble_profile};
 use super::values::{assemble_hex, expected, hex_text, missing, CALL, TIME};
 use crate::paper::forms::{write_item, ITEM_LENGTHS, PROFILE_LENGTHS};
 use std::fs::File;
@@ -105,13 +105,13 @@ pub fn assemble(name: &str, text: &str) -> Result<Vec<Line>, String> {
                 expected,
             });
         }
-        if lines.len() > MOST_ITEMS {
+        if lines.len() > 1 + MOST_ITEMS {
             let error = format!("too many items: expected at most {MOST_ITEMS}");
             return Err(at(name, number, &error));
         }
     }
     if lines.is_empty() {
-        return Err(format!("{name}: {}", missing_profile()));
+        return Err(format!("{name}: {}", missing("profile", profile::FORM)));
     }
     check_whole(&lines).map_err(|(number, error)| at(name, number, &error))?;
     Ok(lines)
@@ -214,11 +214,10 @@ fn no_line(words: &[&str], first: bool) -> String {
     match (words, &small[..]) {
         ([word, ..], ["profile", ..]) if first => capitals(word, "profile"),
         ([word, ..], ["bytes", ..]) => capitals(word, "bytes"),
-        _ if first => expected(
-            "first line",
-            &text,
-            "a profile: profile continue|release TIMER .., or bytes HEX ..",
-        ),
+        _ if first => {
+            let what = format!("{}, or bytes HEX ..", profile::FORM);
+            expected("first line", &text, &what)
+        }
         (_, ["profile", ..]) => expected(
             "line",
             &text,

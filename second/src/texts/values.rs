@@ -205,8 +205,12 @@ pub fn hex_text(bytes: &[u8]) -> String {
 
 /// A count is one byte wide.
 pub fn count(field: &str, count: usize) -> Result<u8, String> {
-    let possible = format!("at most {} of them", u8::MAX);
-    u8::try_from(count).map_err(|_| expected(field, &count.to_string(), &possible))
+    u8::try_from(count).map_err(|_| too_many(field, count, u8::MAX))
+}
+
+pub fn too_many(field: &str, count: usize, most: u8) -> String {
+    let field = format!("count of {field}");
+    expected(&field, &count.to_string(), &format!("at most {most}"))
 }
 
 /// The message about a word, as all of them are.
