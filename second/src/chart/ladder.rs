@@ -14,7 +14,7 @@ pub const CALLS: usize = 16;
 const PAUSE: Tenths = Tenths(600);
 
 pub struct Chart<'a> {
-    pub title: Option<&'a str>,
+    pub title: &'a str,
     /// The profile in words, or that it is refused.
     pub profile: String,
     /// One for each call, in the order of their first items.
@@ -182,7 +182,7 @@ impl<'a> Chart<'a> {
         let steps = &played.steps;
         let drawn = calls.iter().take(CALLS);
         Chart {
-            title: played.title.as_deref(),
+            title: played.title.as_deref().unwrap_or("A scenario"),
             profile: match read_profile(&played.profile) {
                 Some(profile) => format!("Profile: {}", words::profile(&profile)),
                 None => format!("Profile: {}.", words::refusal(Refusal::ProfileMalformed)),

@@ -12,12 +12,12 @@ pub const MARGIN: i32 = 20;
 /// From one line of a label to the next.
 pub const LINE: i32 = 16;
 /// The gaps between the lifelines, from left to right.
-pub const GAPS: [i32; 3] = [190, 290, 190];
+const GAPS: [i32; 3] = [194, 290, 190];
 /// A label keeps off the lifelines.
 pub const LABEL_MARGIN: i32 = 12;
 /// Outside of an outer lifeline: half a head, or a charge's strip and its words.
-pub const OUTER: i32 = 76;
-pub const OUTER_WITH_STRIP: i32 = 146;
+const OUTER: i32 = 76;
+const OUTER_WITH_STRIP: i32 = 146;
 pub const STRIP_WIDTH: i32 = 12;
 pub const STRIP_DISTANCE: i32 = 12;
 /// The room for the words beside it.
@@ -27,8 +27,11 @@ pub const LOOP_WIDTH: i32 = 30;
 pub const HEAD_WIDTH: i32 = 132;
 pub const HEAD_HEIGHT: i32 = 42;
 pub const BADGE_HEIGHT: i32 = 20;
+const PAUSE_HEIGHT: i32 = 30;
+/// Between the parts of a row.
+const PAD: i32 = 6;
 /// A label with more lines than this is cut.
-pub const LABEL_LINES: usize = 14;
+const LABEL_LINES: usize = 14;
 
 /// The places from left to right; the same for all the ladders of a page.
 pub struct Columns {
@@ -136,13 +139,13 @@ pub fn place_rows(columns: &Columns, rows: &[Row], top: i32) -> Vec<Placed> {
 fn place_row(columns: &Columns, row: &Row, top: i32) -> Placed {
     let mut y = top;
     let pause = row.pause.map(|_| {
-        y += 30;
-        y - 15
+        y += PAUSE_HEIGHT;
+        y - PAUSE_HEIGHT / 2
     });
     let comment = row.comment.as_ref().map(|comment| {
         let lines = COMMENT.wrap(comment, comment_width(columns) - 24);
-        let box_top = y + 6;
-        y = box_top + comment_height(&lines) + 6;
+        let box_top = y + PAD;
+        y = box_top + comment_height(&lines) + PAD;
         (box_top, lines)
     });
     let row_top = y;
@@ -150,18 +153,18 @@ fn place_row(columns: &Columns, row: &Row, top: i32) -> Placed {
     for arrow in &row.arrows {
         let (left, right) = columns.label_room(arrow);
         let lines = label_lines(&arrow.label, right - left);
-        y += 6 + LINE * lines.len() as i32 + 6;
+        y += PAD + LINE * lines.len() as i32 + PAD;
         arrows.push((y, lines));
     }
     let refusal = refusal_lines(row);
     let refusal_top = y + LINE + 2;
     y += LINE * refusal.len() as i32;
     if row.relationship.is_some() || row.over {
-        y += 8 + BADGE_HEIGHT;
+        y += PAD + 2 + BADGE_HEIGHT;
     }
     let badges = y - BADGE_HEIGHT / 2;
     // At the item stand two lines of time, and as many of a charge.
-    let bottom = (y + 10).max(arrows[0].0 + 2 * LINE - 4);
+    let bottom = (y + PAD + 4).max(arrows[0].0 + 2 * LINE - 4);
     Placed {
         pause,
         comment,
@@ -181,7 +184,7 @@ fn refusal_lines(row: &Row) -> Vec<String> {
         _ => right,
     };
     let text = row.refusal.map(words::refusal).unwrap_or_default();
-    REFUSED.wrap(&text, gap - 2 * LABEL_MARGIN)
+    REFUSED.wrap(&text, gap - LABEL_MARGIN - PAD)
 }
 
 fn comment_width(columns: &Columns) -> i32 {

@@ -12,11 +12,11 @@ use super::svg::{BYTES, HEADING, LEAD, PROFILE, REFUSED, TIME, TITLE};
 use super::words;
 use crate::texts::hex_text;
 
+/// The picture of a chart.
 pub fn draw(chart: &Chart) -> String {
     let columns = Columns::of(chart);
     let mut svg = Svg::default();
-    let mut y = MARGIN;
-    y = draw_header(&mut svg, &columns, chart, y);
+    let mut y = draw_header(&mut svg, &columns, chart, MARGIN);
     for ladder in &chart.ladders {
         y = draw_ladder(&mut svg, &columns, ladder, y + 14);
     }
@@ -27,16 +27,15 @@ pub fn draw(chart: &Chart) -> String {
     if !chart.ladders.is_empty() {
         y = draw_legend(&mut svg, &columns, y + 22);
     }
-    let title = chart.title.unwrap_or("A scenario");
-    svg.picture(columns.width, y + MARGIN, title, &description(chart))
+    let description = description(chart);
+    svg.picture(columns.width, y + MARGIN, chart.title, &description)
 }
 
 /// Wrapped text over the whole width; says where it ends.
 fn draw_lines(svg: &mut Svg, font: &Font, columns: &Columns, text: &str, top: i32) -> i32 {
-    let step = font.width("MM") * 2 / 3;
     let mut y = top;
     for line in font.wrap(text, columns.width - 2 * MARGIN) {
-        y += step;
+        y += font.line();
         svg.text(font, Anchor::Start, (MARGIN, y), &line);
     }
     y
@@ -44,8 +43,7 @@ fn draw_lines(svg: &mut Svg, font: &Font, columns: &Columns, text: &str, top: i3
 
 /// The first sentence of the title is set large.
 fn draw_header(svg: &mut Svg, columns: &Columns, chart: &Chart, top: i32) -> i32 {
-    let title = chart.title.unwrap_or("A scenario");
-    let (first, rest) = title.split_once(". ").unwrap_or((title, ""));
+    let (first, rest) = chart.title.split_once(". ").unwrap_or((chart.title, ""));
     let y = draw_lines(svg, &TITLE, columns, first.trim_end_matches('.'), top);
     let y = draw_lines(svg, &LEAD, columns, rest, y + 6);
     draw_lines(svg, &PROFILE, columns, &chart.profile, y + 8)

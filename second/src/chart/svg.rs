@@ -217,6 +217,11 @@ impl Font {
         format!(".{class}{{font:{weight} {size}px {family};fill:{colour}}}\n")
     }
 
+    /// From one line to the next, where lines are read on.
+    pub fn line(&self) -> i32 {
+        self.size * 4 / 3 + 2
+    }
+
     /// The room that a text takes at most.
     pub fn width(&self, text: &str) -> i32 {
         let bold = if self.weight == "bold" { 112 } else { 100 };
