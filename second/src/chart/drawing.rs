@@ -16,7 +16,7 @@ use super::svg::{
 };
 use super::words;
 use crate::paper::forms::{Leg, Tenths};
-use crate::paper::record::{Point, Relationship};
+use crate::paper::record::Relationship;
 
 /// Says where it ends.
 pub fn draw_ladder(svg: &mut Svg, columns: &Columns, ladder: &Ladder, top: i32) -> i32 {
@@ -148,12 +148,12 @@ impl Drawing<'_> {
         }
     }
 
+    /// The last hold that has begun by there, since one follows another.
     fn is_held_at(&self, y: i32) -> bool {
-        let covers = |run: &Run<Point>| {
-            let (from, to) = self.extent(run);
-            (from..=to).contains(&y)
-        };
-        self.ladder.holds.iter().any(covers)
+        let holds = &self.ladder.holds;
+        let begun = holds.partition_point(|run| self.extent(run).0 <= y);
+        let last = holds[..begun].last();
+        last.is_some_and(|run| y <= self.extent(run).1)
     }
 
     fn draw_charges(&self, svg: &mut Svg) {
