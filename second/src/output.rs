@@ -1,32 +1,13 @@
 //! Writing to standard output and to standard error. Where standard output
-//! cannot be written (a full disk, a closed pipe), there is a message and the
-//! exit status 2.
+//! cannot be written (a full disk, a closed pipe), that is an error with a
+//! message; `println!` would panic there.
 
-use std::fmt::{Arguments, Display};
+use std::fmt::Display;
 use std::io::{self, Write};
-use std::process;
 
-/// The exit status where there is an error.
-pub const ERROR: u8 = 2;
-
-/// Prints a line. It takes the place of the standard library's macro in all of
-/// this program: that one panics where it cannot write.
-macro_rules! println {
-    () => {
-        $crate::output::print_line(format_args!(""))
-    };
-    ($($argument:tt)+) => {
-        $crate::output::print_line(format_args!($($argument)+))
-    };
-}
-
-/// What `println!` does. Without its output a command has nothing more to do,
-/// so the program ends where it cannot be written.
-pub fn print_line(line: Arguments) {
-    if let Err(message) = write(format!("{line}\n").as_bytes()) {
-        complain(&message);
-        process::exit(ERROR.into());
-    }
+/// Writes a line.
+pub fn line(text: impl Display) -> Result<(), String> {
+    write(format!("{text}\n").as_bytes())
 }
 
 /// Writes all the bytes; none of them waits in a buffer afterwards, where a

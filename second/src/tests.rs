@@ -277,7 +277,7 @@ fn feeder_handed_in_damaged() {
 /// T-02's sentence about cuts.
 #[test]
 fn cuts_do_not_matter() {
-    for (number, bytes) in compare_chunks::cases(500, 1).enumerate() {
+    for (number, bytes) in compare_chunks::cases(1..501).enumerate() {
         let case = Case::read(&bytes).unwrap();
         assert!(!compare_chunks::cut_matters(&case), "case {}", number + 1);
     }

@@ -4,6 +4,7 @@
 
 use crate::bench::rounds::{self, Rounds};
 use crate::compare::triggers::{self, DIALLED_WITH_LONG_LIST, FROM_FRONT, LAST_FIRST, LONG_LIST};
+use crate::output;
 use crate::paper::forms::write_item;
 use crate::paper::listing::frames;
 use crate::paper::table::{self, Entry, ENTRIES};
@@ -189,6 +190,10 @@ pub fn run(listing: &str, bench: &str, quick: bool) -> io::Result<()> {
     measured.and(removed)
 }
 
+fn print(line: &str) -> io::Result<()> {
+    output::line(line).map_err(io::Error::other)
+}
+
 /// The proved program, and this one with the same task.
 fn pair(proved: &str, task: &'static str) -> io::Result<[Program; 2]> {
     Ok([
@@ -212,11 +217,11 @@ fn keep_best(best: &mut [Duration; 2], times: [Duration; 2]) {
 /// Items a second: the ratio is one of speeds.
 fn measure_listings(listing: &str, file: &Path, extent: &Extent) -> io::Result<()> {
     let [proved, second] = pair(listing, "listing")?;
-    println!(
+    print(
         "| listing: open calls | items | proved, items/s | second, items/s \
-         | SPEED proved/second (1.0 or more: proved at least as fast) |"
-    );
-    println!("|---:|---:|---:|---:|---:|");
+         | SPEED proved/second (1.0 or more: proved at least as fast) |",
+    )?;
+    print("|---:|---:|---:|---:|---:|")?;
     for open in OPEN {
         for items in [extent.listing_items / 4, extent.listing_items] {
             let input = input(open, items).map_err(io::Error::other)?;
@@ -230,7 +235,9 @@ fn measure_listings(listing: &str, file: &Path, extent: &Extent) -> io::Result<(
             }
             let [proved, second] = best.map(|time| f64::from(items) / time.as_secs_f64());
             let ratio = proved / second;
-            println!("| {open} | {items} | {proved:.0} | {second:.0} | {ratio:.2} |");
+            print(&format!(
+                "| {open} | {items} | {proved:.0} | {second:.0} | {ratio:.2} |"
+            ))?;
         }
     }
     Ok(())
@@ -244,12 +251,12 @@ fn item_count(input: &[u8]) -> u32 {
 /// Nanoseconds an item: the ratio is one of times.
 fn measure_feeding(bench: &str, file: &Path, extent: &Extent) -> io::Result<()> {
     let programs = pair(bench, "feed-items")?;
-    println!();
-    println!(
+    print("")?;
+    print(
         "| function | open calls | proved, ns/item | second, ns/item \
-         | TIME proved/second (1.0 or less: proved at least as fast) |"
-    );
-    println!("|---|---:|---:|---:|---:|");
+         | TIME proved/second (1.0 or less: proved at least as fast) |",
+    )?;
+    print("|---|---:|---:|---:|---:|")?;
     for (function, name) in [(FEED, "feed"), (FEED_SOUND, "feed_sound")] {
         for open in OPEN {
             let round = input(open, ROUND_ITEMS).map_err(io::Error::other)?;
@@ -262,7 +269,9 @@ fn measure_feeding(bench: &str, file: &Path, extent: &Extent) -> io::Result<()> 
             let [measured] = measure_in_turn([feeding], &programs, extent)?;
             let [proved, second] = measured.nanoseconds;
             let ratio = proved / second;
-            println!("| {name} | {open} | {proved:.1} | {second:.1} | {ratio:.2} |");
+            print(&format!(
+                "| {name} | {open} | {proved:.1} | {second:.1} | {ratio:.2} |"
+            ))?;
         }
     }
     Ok(())
@@ -272,17 +281,17 @@ fn measure_feeding(bench: &str, file: &Path, extent: &Extent) -> io::Result<()> 
 /// ratios are those of what was to what is.
 fn measure_triggers(bench: &str, file: &Path, extent: &Extent) -> io::Result<()> {
     let programs = pair(bench, "check-triggers")?;
-    println!();
-    println!(
+    print("")?;
+    print(
         "| trigger check: dialled, beside ten stored numbers of 15 digits that share 14 \
          | pairs/check before T-03 | pairs/check after \
          | PAIRS before/after (1.0 or more: no more after) \
          | proved, ns/check before | proved, ns/check after \
          | TIME proved before/after (1.0 or more: at least as fast after) \
          | second, ns/check before | second, ns/check after \
-         | TIME second before/after (1.0 or more: at least as fast after) |"
-    );
-    println!("|---|---:|---:|---:|---:|---:|---:|---:|---:|---:|");
+         | TIME second before/after (1.0 or more: at least as fast after) |",
+    )?;
+    print("|---|---:|---:|---:|---:|---:|---:|---:|---:|---:|")?;
     for (dialled, name) in DIALLED_WITH_LONG_LIST {
         let round = triggers::round(LONG_LIST, &[dialled]).map_err(io::Error::other)?;
         let checks = [FROM_FRONT, LAST_FIRST].map(|function| Repeated {
@@ -297,7 +306,7 @@ fn measure_triggers(bench: &str, file: &Path, extent: &Extent) -> io::Result<()>
         for (before, after) in before.nanoseconds.into_iter().zip(after.nanoseconds) {
             line += &ratio_cells([before, after], 1);
         }
-        println!("{line}");
+        print(&line)?;
     }
     Ok(())
 }

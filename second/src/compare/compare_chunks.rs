@@ -5,17 +5,19 @@
 //! Document 02, T-02.
 
 use crate::compare::chunks::{self, feed_chunk, push_feeder, push_hex, Call, Case, Outcome, Step};
-use crate::compare::counts::Counts;
+use crate::compare::counts::{self, Counts};
 use crate::compare::generate::Generator;
-use crate::compare::program;
+use crate::compare::program::{Answers, Input, Program};
 use crate::compare::random::Random;
+use crate::compare::shown;
+use crate::output;
 use crate::paper::answer::Refusal;
 use crate::paper::feeder::{Feeder, ROOM};
 use crate::paper::forms::{write_item, ITEM_LENGTHS};
 use crate::texts;
-use std::io::{self, BufRead, BufReader, BufWriter, Read, Write};
-use std::iter::{self, Peekable};
-use std::process::ChildStdin;
+use std::io::Write;
+use std::mem;
+use std::ops::Range;
 
 /// Items of 23, 14, 20 and 65 bytes.
 const SETUP: &str = "setup 4/49151 service 17";
@@ -288,44 +290,40 @@ fn cut_at_random(random: &mut Random, run: &[u8], steps: &mut Vec<Step>) {
     }
 }
 
-/// All the cases, as bytes.
-pub fn cases(count: u64, seed: u64) -> impl Iterator<Item = Vec<u8>> {
-    let random = (seed..seed + count).map(|seed| generate(seed).bytes());
+/// All the cases, as bytes: the fixed ones, and those of these seeds.
+pub fn cases(seeds: Range<u64>) -> impl Iterator<Item = Vec<u8>> {
+    let random = seeds.map(|seed| generate(seed).bytes());
     fixed_cases().into_iter().chain(random)
 }
 
-/// Compares the fixed cases and COUNT random ones; true if nothing differs and
-/// every form came up.
-pub fn run(program: &str, count: u64, seed: u64) -> Result<bool, String> {
-    let write = |mut input: BufWriter<ChildStdin>| {
-        // A program that has ended shows in its output.
-        for case in cases(count, seed) {
-            let _ = input.write_all(&case);
-        }
+/// Compares the fixed cases and those of these seeds; true if nothing differs
+/// and every form came up.
+pub fn run(program: Program, seeds: Range<u64>) -> Result<bool, String> {
+    let write = |input: &mut Input| {
+        cases(seeds.clone()).try_for_each(|case| input.write_all(&case))?;
         // The input ends before a case is whole: nothing is answered to it.
         let last = with_new_feeder(vec![Step::Chunk(item(ANSWER))]).bytes();
-        let _ = input.write_all(&last[..last.len() - 1]);
+        input.write_all(&last[..last.len() - 1])
     };
-    program::run_beside(program, write, |output| compare(output, count, seed))
+    program.run_beside(write, |answers| compare(answers, seeds.clone()))
 }
 
-fn compare(output: impl Read, count: u64, seed: u64) -> Result<bool, String> {
-    let mut output = BufReader::new(output);
-    let mut lines = iter::from_fn(|| next_line(&mut output)).peekable();
+fn compare(answers: &mut Answers, seeds: Range<u64>) -> Result<bool, String> {
+    let mut ahead = Vec::new();
     let mut counts = Counts::new(wanted());
     let mut numbers = 0;
     let mut call_count = 0;
     let mut differences = 0;
-    for (number, bytes) in (1..).zip(cases(count, seed)) {
+    for (number, bytes) in (1..).zip(cases(seeds)) {
         let case = Case::read(&bytes).expect("it is a case");
         let calls = case.calls();
         let ours = chunks::text_of(number, &calls);
-        let theirs = next_case(&mut lines).map_err(|error| format!("case {number}: {error}"))?;
+        let theirs = read_answer(answers, number, &mut ahead)?;
         let cut = cut_matters(&case);
-        if ours != theirs || cut {
+        if ours.as_bytes() != theirs || cut {
             differences += 1;
             if differences == 1 {
-                println!("{}", difference(&case, &theirs, &ours, cut));
+                output::line(difference(&case, &theirs, &ours, cut))?;
             }
         }
         for call in &calls {
@@ -334,35 +332,31 @@ fn compare(output: impl Read, count: u64, seed: u64) -> Result<bool, String> {
         numbers = number;
         call_count += calls.len();
     }
-    if lines.next().is_some() {
-        println!("more is answered than was asked");
+    if !ahead.is_empty() || !answers.is_at_end()? {
+        output::line("more is answered than was asked")?;
         differences += 1;
     }
-    let complete = counts.print();
-    println!("{numbers} cases, {call_count} calls, {differences} differences");
+    let missing = counts.print()?;
+    let done = format!("{numbers} cases, {call_count} calls, {differences} differences");
+    let complete = counts::conclude(&done, missing)?;
     Ok(complete && differences == 0)
 }
 
-type Line = io::Result<String>;
-
-/// With the end of the line, if it has one.
-fn next_line(output: &mut impl BufRead) -> Option<Line> {
-    let mut line = String::new();
-    let read = output.read_line(&mut line);
-    match read {
-        Ok(0) => None,
-        read => Some(read.map(|_| line)),
+/// The lines of a case: up to the next one that begins a case, which is left in
+/// `ahead`.
+fn read_answer(answers: &mut Answers, number: u64, ahead: &mut Vec<u8>) -> Result<Vec<u8>, String> {
+    answers.begin(number);
+    let mut answer = mem::take(ahead);
+    if answer.is_empty() {
+        answers.line(&mut answer)?;
     }
-}
-
-/// The next case's lines: up to the next one that begins a case.
-fn next_case(lines: &mut Peekable<impl Iterator<Item = Line>>) -> Line {
-    let begins = |line: &Line| matches!(line, Ok(line) if line.starts_with("case "));
-    let mut text = String::new();
-    while let Some(line) = lines.next_if(|line| text.is_empty() || !begins(line)) {
-        text += &line?;
+    loop {
+        answers.line(ahead)?;
+        if ahead.is_empty() || ahead.starts_with(b"case ") {
+            return Ok(answer);
+        }
+        answer.append(ahead);
     }
-    Ok(text)
 }
 
 /// Whether a run that is fed after a reset leads to something else than in one
@@ -571,7 +565,7 @@ fn reset_form(call: &Call) -> String {
 }
 
 /// The case, and the first lines that differ.
-fn difference(case: &Case, theirs: &str, ours: &str, cut: bool) -> String {
+fn difference(case: &Case, theirs: &[u8], ours: &str, cut: bool) -> String {
     let mut text = "the first difference, handed in: ".to_string();
     push_feeder(&mut text, &case.feeder);
     text += "\nsteps:";
@@ -586,16 +580,13 @@ fn difference(case: &Case, theirs: &str, ours: &str, cut: bool) -> String {
     if cut {
         text += "\n  ours is not the same in one chunk";
     }
-    let (mut their, mut our) = (theirs.lines(), ours.lines());
-    let lines = iter::repeat_with(|| (their.next(), our.next()));
-    for (their, our) in lines.take_while(|lines| *lines != (None, None)) {
-        if their == our {
-            text += &format!("\n  {}", our.unwrap_or_default());
-            continue;
-        }
-        let [their, our] = [their, our].map(|line| line.unwrap_or("nothing"));
+    let (number, their, our) = shown::first_difference(theirs, ours.as_bytes());
+    for line in ours.lines().take(number) {
+        text += &format!("\n  {line}");
+    }
+    if their != our {
+        let [their, our] = [their, our].map(shown::line);
         text += &format!("\n  theirs: {their}\n  ours:   {our}");
-        break;
     }
     text
 }

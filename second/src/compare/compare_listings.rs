@@ -1,19 +1,21 @@
 //! The listing program and this one on the same generated scenarios, which
 //! reach both in the same pieces.
 
-use crate::compare::counts::Counts;
-use crate::compare::program::LONGEST_PIECE;
+use crate::compare::counts::{self, Counts};
+use crate::compare::program::{Program, LONGEST_PIECE};
 use crate::compare::random::Random;
-use crate::compare::{coverage, generate, program};
+use crate::compare::{coverage, generate, shown};
+use crate::output;
 use crate::paper::forms::read_item;
 use crate::paper::listing;
 use crate::paper::listing::frames;
 use crate::texts;
 use std::io::{self, BufReader, Read};
 use std::ops::Range;
+use std::sync::atomic::{AtomicBool, Ordering};
 use std::thread;
 
-const THREADS: u64 = 2;
+const THREADS: usize = 2;
 
 /// What the scenarios of one thread have shown.
 struct Found {
@@ -22,6 +24,8 @@ struct Found {
     differences: u64,
     /// The seed and the text of the first difference.
     first: Option<(u64, String)>,
+    /// The seed and the text of the first error.
+    error: Option<(u64, String)>,
 }
 
 impl Found {
@@ -31,47 +35,80 @@ impl Found {
             items: 0,
             differences: 0,
             first: None,
+            error: None,
         }
+    }
+
+    fn add(&mut self, other: Found) {
+        let first = |one: &mut Option<_>, other| *one = one.take().into_iter().chain(other).min();
+        self.coverage.add_all(other.coverage);
+        self.items += other.items;
+        self.differences += other.differences;
+        first(&mut self.first, other.first);
+        first(&mut self.error, other.error);
     }
 }
 
-/// Compares COUNT scenarios; true if nothing differs and all was reached.
-pub fn run(program: &str, count: u64, seed: u64) -> Result<bool, String> {
-    let results = thread::scope(|scope| {
-        let threads: Vec<_> = (0..THREADS)
-            .map(|part| scope.spawn(move || compare_part(program, seed + part..seed + count)))
-            .collect();
-        let join = |thread: thread::ScopedJoinHandle<_>| thread.join().expect("no panic");
-        threads.into_iter().map(join).collect::<Vec<_>>()
-    });
-    let mut whole = Found::nothing();
-    for result in results {
-        let found: Found = result?;
-        whole.coverage.add_all(found.coverage);
-        whole.items += found.items;
-        whole.differences += found.differences;
-        whole.first = whole.first.into_iter().chain(found.first).min();
+/// Compares the scenarios of these seeds; true if nothing differs and all was
+/// reached.
+pub fn run(program: Program, seeds: Range<u64>) -> Result<bool, String> {
+    let count = seeds.end - seeds.start;
+    let found = compare_all(program, seeds);
+    if let Some((_, error)) = found.error {
+        return Err(error);
     }
-    let complete = whole.coverage.print();
-    if let Some((seed, difference)) = whole.first {
-        println!("the first difference, seed {seed}:\n{difference}");
+    let missing = found.coverage.print()?;
+    if let Some((seed, difference)) = found.first {
+        output::line(format_args!(
+            "the first difference, seed {seed}:\n{difference}"
+        ))?;
     }
-    let (items, differences) = (whole.items, whole.differences);
-    println!("{count} scenarios, {items} items, {differences} differences");
+    let (items, differences) = (found.items, found.differences);
+    let done = format!("{count} scenarios, {items} items, {differences} differences");
+    let complete = counts::conclude(&done, missing)?;
     Ok(complete && differences == 0)
 }
 
-/// Every second seed of the range: the other thread has the others.
-fn compare_part(program: &str, seeds: Range<u64>) -> Result<Found, String> {
+/// Each thread has every second seed.
+fn compare_all(program: Program, seeds: Range<u64>) -> Found {
+    let stop = &AtomicBool::new(false);
     let mut found = Found::nothing();
-    for seed in seeds.step_by(THREADS as usize) {
-        let scenario = generate::scenario(seed);
-        found.items += coverage::count_scenario(&mut found.coverage, &scenario);
-        let pieces = cut(&mut Random::new(!seed), &scenario);
-        let ours = listing::of_input(BufReader::new(Pieces(&pieces)));
-        let theirs = program::output_of_pieces(program, &pieces);
-        let theirs = theirs.map_err(|error| format!("seed {seed}: {error}"))?;
-        if ours != theirs {
+    thread::scope(|scope| {
+        let parts = (0..THREADS).map(|part| seeds.clone().skip(part).step_by(THREADS));
+        let compare = |seeds| scope.spawn(move || compare_part(program, seeds, stop));
+        let threads: Vec<_> = parts.map(compare).collect();
+        for thread in threads {
+            found.add(thread.join().expect("no panic"));
+        }
+    });
+    found
+}
+
+/// After an error all the threads stop, but none before its first scenario: so
+/// a program that never works always gives the same message.
+fn compare_part(program: Program, seeds: impl Iterator<Item = u64>, stop: &AtomicBool) -> Found {
+    let mut found = Found::nothing();
+    for seed in seeds {
+        compare_scenario(program, seed, &mut found);
+        if found.error.is_some() {
+            stop.store(true, Ordering::Relaxed);
+        }
+        if stop.load(Ordering::Relaxed) {
+            break;
+        }
+    }
+    found
+}
+
+fn compare_scenario(program: Program, seed: u64, found: &mut Found) {
+    let scenario = generate::scenario(seed);
+    found.items += coverage::count_scenario(&mut found.coverage, &scenario);
+    let pieces = cut(&mut Random::new(!seed), &scenario);
+    let ours = listing::of_input(BufReader::new(Pieces(&pieces)));
+    match program.output_of_pieces(format_args!("seed {seed}"), &pieces) {
+        Err(error) => found.error = Some((seed, error)),
+        Ok(theirs) if theirs == ours => {}
+        Ok(theirs) => {
             found.differences += 1;
             found.first.get_or_insert_with(|| {
                 let lengths: Vec<usize> = pieces.iter().map(|piece| piece.len()).collect();
@@ -80,7 +117,6 @@ fn compare_part(program: &str, seeds: Range<u64>) -> Result<Found, String> {
             });
         }
     }
-    Ok(found)
 }
 
 /// Pieces of random lengths, none of them empty; now and then all of one byte,
@@ -120,13 +156,7 @@ impl Read for Pieces<'_> {
 
 /// The profile, the items of the differing call up to there, both answers.
 fn difference(scenario: &[u8], theirs: &[u8], ours: &[u8]) -> String {
-    let theirs = String::from_utf8_lossy(theirs);
-    let ours = String::from_utf8_lossy(ours);
-    let (mut their, mut our) = (theirs.lines(), ours.lines());
-    let (number, their, our) = (0..)
-        .map(|number| (number, their.next(), our.next()))
-        .find(|(_, their, our)| their != our || their.is_none())
-        .expect("the lines do not go on for ever");
+    let (number, their, our) = shown::first_difference(theirs, ours);
     let frames = frames(scenario);
     let call = |frame: &&[u8]| read_item(frame).map(|item| item.call);
     let concerned = frames.get(number).map(call);
@@ -136,6 +166,6 @@ fn difference(scenario: &[u8], theirs: &[u8], ours: &[u8]) -> String {
             text += &format!("\n{}", texts::explain_item(item));
         }
     }
-    let [their, our] = [their, our].map(|line| line.unwrap_or("nothing"));
+    let [their, our] = [their, our].map(shown::line);
     format!("{text}\n  theirs: {their}\n  ours:   {our}")
 }

@@ -3,18 +3,20 @@
 //!
 //! Document 01, section "The call table", and row 3 of "Numbered refusals".
 
-use crate::compare::counts::Counts;
+use crate::compare::counts::{self, Counts};
 use crate::compare::generate::Generator;
-use crate::compare::program;
+use crate::compare::program::{Answers, Input, Program};
 use crate::compare::random::Random;
+use crate::compare::shown;
 use crate::compare::tables::{self, read_entry, Case, ENTRY_BYTES};
+use crate::output;
 use crate::paper::answer::Answer;
 use crate::paper::forms::{kind, read_item, Handling, Leg, Seconds, Tenths, TIME_END};
 use crate::paper::record::{Armings, CalledNumber, Charge, Mode, Point, Record, Stage};
 use crate::paper::table::{self, Entry, ENTRIES};
 use crate::texts;
-use std::io::{self, BufRead, BufReader, BufWriter, Read, Write};
-use std::process::ChildStdin;
+use std::io::Write;
+use std::ops::Range;
 
 /// Tables of a wrong number of records.
 const WRONG_COUNTS: [(&str, &[usize]); 5] = [
@@ -315,33 +317,31 @@ fn own(random: &mut Random, table: &mut [Entry], slot: usize) {
     };
 }
 
-/// Compares COUNT cases; true if nothing differs and every kind came up.
-pub fn run(program: &str, count: u64, seed: u64) -> Result<bool, String> {
-    let write = |mut input: BufWriter<ChildStdin>| {
-        for seed in seed..seed + count {
-            // A program that has ended shows in its output.
-            let _ = input.write_all(&generate(seed).0.bytes());
-        }
+/// Compares the cases of these seeds; true if nothing differs and every kind
+/// came up.
+pub fn run(program: Program, seeds: Range<u64>) -> Result<bool, String> {
+    let write = |input: &mut Input| {
+        let mut cases = seeds.clone().map(|seed| generate(seed).0.bytes());
+        cases.try_for_each(|case| input.write_all(&case))
     };
-    program::run_beside(program, write, |output| compare(output, count, seed))
+    program.run_beside(write, |answers| compare(answers, seeds.clone()))
 }
 
-fn compare(output: impl Read, count: u64, seed: u64) -> Result<bool, String> {
-    let mut output = BufReader::new(output);
+fn compare(answers: &mut Answers, seeds: Range<u64>) -> Result<bool, String> {
+    let count = seeds.end - seeds.start;
     let mut counts = Counts::new(wanted());
     let mut differences = 0;
-    for number in 1..=count {
-        let (mut case, damages) = generate(seed + number - 1);
+    for (number, seed) in (1..).zip(seeds) {
+        let (mut case, damages) = generate(seed);
         let before = case.table.clone();
         let answer = table::feed(&mut case.table, &case.item, &case.profile);
         let ours = tables::output_of(number, &answer, &case.table);
-        let theirs = read_answer(&mut output, before.len());
-        let theirs = theirs.map_err(|error| format!("case {number}: {error}"))?;
+        let theirs = read_answer(answers, number, before.len())?;
         if ours != theirs {
             differences += 1;
             if differences == 1 {
-                println!("damage: {damages:?}");
-                println!("{}", difference(&before, &case, &theirs, &ours));
+                let difference = difference(&before, &case, &theirs, &ours);
+                output::line(format_args!("damage: {damages:?}\n{difference}"))?;
             }
         }
         counts.count(answer_form(&answer));
@@ -349,18 +349,22 @@ fn compare(output: impl Read, count: u64, seed: u64) -> Result<bool, String> {
             counts.count(damage.to_string());
         }
     }
-    let complete = counts.print();
-    println!("{count} tables, {differences} differences");
+    if !answers.is_at_end()? {
+        output::line("more is answered than was asked")?;
+        differences += 1;
+    }
+    let missing = counts.print()?;
+    let done = format!("{count} tables, {differences} differences");
+    let complete = counts::conclude(&done, missing)?;
     Ok(complete && differences == 0)
 }
 
 /// A line and so many entries.
-fn read_answer(output: &mut impl BufRead, entries: usize) -> io::Result<Vec<u8>> {
+fn read_answer(answers: &mut Answers, number: u64, entries: usize) -> Result<Vec<u8>, String> {
     let mut bytes = Vec::new();
-    output.read_until(b'\n', &mut bytes)?;
-    output
-        .take((entries * ENTRY_BYTES) as u64)
-        .read_to_end(&mut bytes)?;
+    answers.begin(number);
+    answers.line(&mut bytes)?;
+    answers.bytes(entries * ENTRY_BYTES, &mut bytes)?;
     Ok(bytes)
 }
 
@@ -394,26 +398,34 @@ fn difference(before: &[Entry], case: &Case, theirs: &[u8], ours: &[u8]) -> Stri
     let slot_of_call = || before.iter().position(|entry| entry.owner == call);
     let slot = (0..before.len()).find(differs).or_else(slot_of_call);
     let mut text = format!(
-        "{}\n{}\n  theirs: {their_line}\n  ours:   {our_line}\n  {} entries",
+        "{}\n{}\n  theirs: {}\n  ours:   {}\n  {} entries",
         texts::explain_profile(&case.profile),
         texts::explain_item(&case.item),
+        shown::line(their_line),
+        shown::line(our_line),
         before.len()
     );
     if let Some(slot) = slot {
-        let their_entry = their_entries.get(slot).copied().and_then(read_entry);
+        let their_entry = their_entries.get(slot).copied().unwrap_or_default();
+        let their_entry = entry_text(their_entry, our_entries[slot]);
         text += &format!("\n  entry {slot} before: {:?}", before[slot]);
-        text += &format!("\n  theirs after:   {their_entry:?}");
+        text += &format!("\n  theirs after:   {their_entry}");
         text += &format!("\n  ours after:     {:?}", case.table[slot]);
     }
     text
 }
 
-fn split_answer(answer: &[u8]) -> (String, Vec<&[u8]>) {
-    let end = answer
-        .iter()
-        .position(|byte| *byte == b'\n')
-        .map_or(answer.len(), |end| end + 1);
-    let (line, entries) = answer.split_at(end);
-    let line = String::from_utf8_lossy(line).trim_end().to_string();
+/// An entry in words; in hex if it is none, or is not the one that its words say.
+fn entry_text(their: &[u8], our: &[u8]) -> String {
+    match read_entry(their) {
+        Some(entry) if their == our || Some(entry) != read_entry(our) => format!("{entry:?}"),
+        _ => shown::hex_from_difference(their, our),
+    }
+}
+
+/// The line, if there is one, and what follows it, in entries.
+fn split_answer(answer: &[u8]) -> (Option<&[u8]>, Vec<&[u8]>) {
+    let line = shown::lines(answer).next();
+    let entries = &answer[line.map_or(0, <[u8]>::len)..];
     (line, entries.chunks(ENTRY_BYTES).collect())
 }

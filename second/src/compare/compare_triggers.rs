@@ -8,15 +8,18 @@
 //! Document 02, T-03.
 
 use crate::bench::rounds::{self, Rounds};
-use crate::compare::counts::Counts;
-use crate::compare::program;
+use crate::compare::counts::{self, Counts};
+use crate::compare::program::Program;
 use crate::compare::random::Random;
+use crate::compare::shown;
 use crate::compare::triggers::{
     self, Checks, DIALLED_WITH_LONG_LIST, FROM_FRONT, LAST_FIRST, LONG_LIST,
 };
+use crate::output;
 use crate::paper::forms::{kind, with_length_and_version, write_item, Number, TIME_END};
 use crate::paper::trigger::{compare, compare_from_front, Compared};
 use crate::texts;
+use std::ops::Range;
 
 /// The stored number of P6, and what is dialled.
 const P6: &str = "profile continue 120 enabling 4/491";
@@ -216,23 +219,22 @@ fn setup(random: &mut Random, (nature, digits): &OwnNumber) -> Vec<u8> {
     write_item(kind::SETUP, call, random.below(TIME_END.0), &body)
 }
 
-/// Compares the fixed cases and COUNT random ones; true if nothing differs and
-/// every form came up.
-pub fn run(program: &str, count: u64, seed: u64) -> Result<bool, String> {
-    let random = (seed..seed + count).map(generate);
-    let cases = fixed_cases().into_iter().chain(random);
+/// Compares the fixed cases and those of these seeds; true if nothing differs
+/// and every form came up.
+pub fn run(program: Program, seeds: Range<u64>) -> Result<bool, String> {
+    let cases = fixed_cases().into_iter().chain(seeds.map(generate));
     let mut counts = Counts::new(wanted());
     let mut numbers = 0;
     let mut comparisons = 0;
     let mut differences = 0;
     for (number, case) in (1..).zip(cases) {
-        let found = compare_case(program, &case);
-        if let Some(difference) = found.map_err(|error| format!("case {number}: {error}"))? {
+        if let Some(difference) = compare_case(program, number, &case)? {
             differences += 1;
             if differences == 1 {
                 let (checks, round) = (case.checks, texts::explain(&case.round));
-                println!("the first difference, case {number}, {checks} checks:");
-                println!("{round}{difference}");
+                output::line(format_args!(
+                    "the first difference, case {number}, {checks} checks:\n{round}{difference}"
+                ))?;
             }
         }
         for order in ORDERS {
@@ -240,24 +242,27 @@ pub fn run(program: &str, count: u64, seed: u64) -> Result<bool, String> {
         }
         numbers = number;
     }
-    let complete = counts.print();
-    println!("{numbers} cases, {comparisons} comparisons of digits, {differences} differences");
+    let missing = counts.print()?;
+    let done =
+        format!("{numbers} cases, {comparisons} comparisons of digits, {differences} differences");
+    let complete = counts::conclude(&done, missing)?;
     Ok(complete && differences == 0)
 }
 
 /// What differs in a case, if something does.
-fn compare_case(program: &str, case: &Case) -> Result<Option<String>, String> {
+fn compare_case(program: Program, number: u64, case: &Case) -> Result<Option<String>, String> {
     let mut matched = Vec::new();
     for Order { name, function, .. } in ORDERS {
         let input = case.input(function);
-        let ours = triggers::run(&input)?;
-        let theirs = program::output_of(program, &input)?;
-        let theirs = String::from_utf8_lossy(&theirs);
-        if theirs != format!("{ours}\n") {
-            let difference = format!("{name}\n  theirs: {theirs:?}\n  ours:   \"{ours}\\n\"");
+        let sums = triggers::run(&input)?;
+        let ours = format!("{sums}\n").into_bytes();
+        let theirs = program.output_of(format_args!("case {number}, {name}"), &input)?;
+        if theirs != ours {
+            let [theirs, ours] = [theirs, ours].map(|output| shown::text(&output));
+            let difference = format!("{name}\n  theirs: \"{theirs}\"\n  ours:   \"{ours}\"");
             return Ok(Some(difference));
         }
-        matched.push(ours.matched);
+        matched.push(sums.matched);
     }
     let stays = matched[0] == matched[1];
     Ok((!stays).then(|| format!("ours does not match as often in both orders: {matched:?}")))

@@ -1,5 +1,6 @@
 //! Counts of the forms that tests have to reach, and their table in print.
 
+use crate::output;
 use std::collections::HashMap;
 
 const LINE: usize = 100;
@@ -32,17 +33,18 @@ impl Counts {
         }
     }
 
-    /// Prints the counts; true if every form that is wanted was reached.
-    pub fn print(&self) -> bool {
+    /// Prints the counts and the forms that were never reached, and says how many
+    /// these are.
+    pub fn print(&self) -> Result<usize, String> {
         let mut missing = Vec::new();
         for (title, forms) in &self.wanted {
-            println!("{title}:");
+            output::line(format_args!("{title}:"))?;
             let mut line = String::new();
             for form in forms {
                 let count = self.reached.get(form).copied().unwrap_or(0);
                 let cell = format!("  {form}: {count}");
                 if line.len() + cell.len() > LINE {
-                    println!("{line}");
+                    output::line(&line)?;
                     line.clear();
                 }
                 line += &cell;
@@ -50,11 +52,24 @@ impl Counts {
                     missing.push(form);
                 }
             }
-            println!("{line}");
+            output::line(&line)?;
         }
         for form in &missing {
-            println!("never reached: {form}");
+            output::line(format_args!("never reached: {form}"))?;
         }
-        missing.is_empty()
+        Ok(missing.len())
     }
+}
+
+/// The last line of a command: what was done; and if some forms are missing, that
+/// it was not enough. True if none is.
+pub fn conclude(done: &str, missing: usize) -> Result<bool, String> {
+    let forms = if missing == 1 { "form" } else { "forms" };
+    match missing {
+        0 => output::line(done)?,
+        _ => output::line(format_args!(
+            "{done}, but {missing} {forms} never reached: COUNT is too small"
+        ))?,
+    }
+    Ok(missing == 0)
 }

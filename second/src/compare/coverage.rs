@@ -1,7 +1,7 @@
 //! Which forms of document 01 the generated scenarios reach, counted from this
 //! program's own answers.
 
-use crate::compare::counts::Counts;
+use crate::compare::counts::{self, Counts};
 use crate::compare::generate;
 use crate::paper::answer::Accepted;
 use crate::paper::call::{occurs_at, point_met};
@@ -10,6 +10,7 @@ use crate::paper::listing::frames;
 use crate::paper::record::{Mode, Point, Record, Relationship, Stage};
 use crate::paper::table;
 use crate::texts;
+use std::ops::Range;
 
 const MODES: [Option<Mode>; 3] = [None, Some(Mode::Interrupted), Some(Mode::Notify)];
 const OPERATIONS: [&str; 7] = [
@@ -22,16 +23,16 @@ const OPERATIONS: [&str; 7] = [
     "abort",
 ];
 
-/// Counts the scenarios of COUNT seeds; true if every form was reached.
-pub fn run(count: u64, seed: u64) -> bool {
+/// Counts what the scenarios of these seeds reach; true if that is every form.
+pub fn run(seeds: Range<u64>) -> Result<bool, String> {
+    let count = seeds.end - seeds.start;
     let mut counts = Counts::new(wanted());
     let mut items = 0;
-    for seed in seed..seed + count {
+    for seed in seeds {
         items += count_scenario(&mut counts, &generate::scenario(seed));
     }
-    let complete = counts.print();
-    println!("{count} scenarios, {items} items");
-    complete
+    let missing = counts.print()?;
+    counts::conclude(&format!("{count} scenarios, {items} items"), missing)
 }
 
 /// The forms that have to be reached, in groups, by the rules of document 01.

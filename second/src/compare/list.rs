@@ -1,7 +1,7 @@
 //! Scenarios listed with the answers that a program gives to them. This program
 //! itself is not asked.
 
-use super::program;
+use super::program::Program;
 use crate::output;
 use crate::texts::{
     self, heading, is_answer, listed, quoted, Line, Listed, Scenario, PROFILE_REFUSED,
@@ -12,7 +12,7 @@ const HEADER: &str = "item answer";
 
 /// Lists all the files; true if every answer is as the texts expect it. Nothing
 /// is run before all of them are read.
-pub fn run(program: &str, files: &[&str]) -> Result<bool, String> {
+pub fn run(program: Program, files: &[&str]) -> Result<bool, String> {
     let scenarios = read_all(files)?;
     let mut differences = Vec::new();
     for (place, scenario) in scenarios.iter().enumerate() {
@@ -61,10 +61,11 @@ fn read(file: &str) -> Result<Scenario, String> {
     }
 }
 
-fn list(program: &str, scenario: &Scenario) -> Result<Listed, String> {
-    let output = program::output_of(program, &texts::bytes_of(&scenario.lines))?;
+fn list(program: Program, scenario: &Scenario) -> Result<Listed, String> {
+    let output = program.output_of(&scenario.name, &texts::bytes_of(&scenario.lines))?;
     let output = String::from_utf8_lossy(&output);
-    list_output(scenario, &output).map_err(|error| format!("{program}: {}: {error}", scenario.name))
+    let listed = list_output(scenario, &output);
+    listed.map_err(|error| program.message(&scenario.name, error))
 }
 
 /// The scenario with the answers that are in a program's output.

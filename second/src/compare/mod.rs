@@ -3,11 +3,12 @@
 //! in bits, trigger checks. Random inputs have to reach every form that is
 //! wanted, and that is counted.
 
-// What is handed in, and running a program on it.
+// What is handed in, running a program on it, and showing what it has written.
 pub mod chunks;
 pub mod generate;
 pub mod program;
 pub mod random;
+pub mod shown;
 pub mod tables;
 pub mod triggers;
 
@@ -22,5 +23,7 @@ pub mod compare_listings;
 pub mod compare_tables;
 pub mod compare_triggers;
 pub mod list;
+#[cfg(test)]
+mod program_tests;
 #[cfg(test)]
 mod tests;

@@ -1,91 +1,386 @@
-//! Running another program on given bytes.
+//! Running another program on given bytes, within limits: it has to end in time,
+//! and may not write for ever. A program that does not keep to that is killed.
+//!
+//! Input and output go through sockets. A read or a write there can be given up
+//! after some time, which a pipe does not allow. So no thread has to keep watch,
+//! and nothing that the program has started can hold this one up by keeping the
+//! program's input or output open.
 
-use std::io::{self, BufWriter, Write};
+use std::fmt::Display;
+use std::io::{self, BufRead, BufReader, BufWriter, ErrorKind, Read, Write};
 use std::os::fd::OwnedFd;
-use std::os::unix::net::UnixDatagram;
-use std::process::{ChildStdin, ChildStdout, Command, Output, Stdio};
-use std::thread;
-
-/// Runs the program while one thread writes its input and this one reads its
-/// output: for more of both than is kept at once.
-pub fn run_beside<T>(
-    program: &str,
-    write: impl FnOnce(BufWriter<ChildStdin>) + Send,
-    read: impl FnOnce(ChildStdout) -> Result<T, String>,
-) -> Result<T, String> {
-    let mut child = Command::new(program)
-        .stdin(Stdio::piped())
-        .stdout(Stdio::piped())
-        .spawn()
-        .map_err(|error| format!("{program}: {error}"))?;
-    let stdin = child.stdin.take().expect("it is piped");
-    let stdout = child.stdout.take().expect("it is piped");
-    let result = thread::scope(|scope| {
-        scope.spawn(move || write(BufWriter::new(stdin)));
-        read(stdout)
-    });
-    let status = child.wait().map_err(|error| error.to_string())?;
-    match status.success() {
-        true => result,
-        false => Err(format!("{program}: {status}")),
-    }
-}
-
-/// What the program writes when it is handed the input. A thread of its own
-/// writes the input, so that no full pipe blocks.
-pub fn output_of(program: &str, input: &[u8]) -> Result<Vec<u8>, String> {
-    let mut child = Command::new(program)
-        .stdin(Stdio::piped())
-        .stdout(Stdio::piped())
-        .spawn()
-        .map_err(|error| format!("{program}: {error}"))?;
-    let stdin = child.stdin.take();
-    let output = thread::scope(|scope| {
-        // A program may end before it has read everything: no error.
-        scope.spawn(move || stdin.map(|mut stdin| stdin.write_all(input)));
-        child.wait_with_output()
-    });
-    successful(program, output)
-}
+use std::os::unix::net::{UnixDatagram, UnixStream};
+use std::process::{Child, Command, ExitStatus, Stdio};
+use std::sync::atomic::{AtomicU64, Ordering};
+use std::sync::Arc;
+use std::time::{Duration, Instant};
+use std::{fs, thread};
 
 /// The longest piece for `output_of_pieces`. Of a datagram that is longer than
 /// the room of its read, the rest is lost. The listing programs have more room
 /// at each read; and what were lost would show as a difference.
 pub const LONGEST_PIECE: usize = 4096;
 
-/// The same for an input that comes in pieces: one read of the program gives
-/// one of them, since they are sent as datagrams. None of them is empty.
-pub fn output_of_pieces(program: &str, pieces: &[&[u8]]) -> Result<Vec<u8>, String> {
-    let failed = |error: io::Error| format!("{program}: {error}");
-    let (ours, theirs) = UnixDatagram::pair().map_err(failed)?;
-    let child = Command::new(program)
-        .stdin(OwnedFd::from(theirs))
-        .stdout(Stdio::piped())
-        .spawn()
-        .map_err(failed)?;
-    let output = thread::scope(|scope| {
-        scope.spawn(|| send(&ours, pieces));
-        child.wait_with_output()
-    });
-    successful(program, output)
+/// The most that a program may write: all in all, or as one of many answers. No
+/// listing of a scenario and no answer to a case comes near it.
+const LONGEST_OUTPUT: usize = 16 << 20;
+
+/// So often it is looked without a pause whether a program has ended.
+const SOON: u32 = 100;
+
+const DID_NOT_END: &str = "did not end";
+const GAVE_NO_ANSWER: &str = "gave no answer";
+
+/// A program to be run.
+#[derive(Clone, Copy)]
+pub struct Program<'a> {
+    pub path: &'a str,
+    /// How long it may take; where it gives many answers to a long input: how
+    /// long it may neither read on nor come to the end of an answer.
+    pub limit: Duration,
+}
+
+impl Program<'_> {
+    /// What the program writes when it is handed the input; `on` names the input
+    /// in messages. A thread of its own writes the input, so that no program
+    /// that does not read it blocks.
+    pub fn output_of(&self, on: impl Display, input: &[u8]) -> Result<Vec<u8>, String> {
+        let (socket, mut running) = self.start_with_stream()?;
+        let output = thread::scope(|scope| {
+            // A program may end before it has read everything: no error.
+            scope.spawn(move || (&socket).write_all(input));
+            running.whole_output()
+        });
+        output.map_err(|fault| self.message(on, fault))
+    }
+
+    /// The same for an input that comes in pieces: one read of the program gives
+    /// one of them, since they are sent as datagrams. None of them is empty.
+    pub fn output_of_pieces(&self, on: impl Display, pieces: &[&[u8]]) -> Result<Vec<u8>, String> {
+        let (socket, mut running) = self.start_with_datagrams()?;
+        let output = thread::scope(|scope| {
+            // The same here.
+            scope.spawn(|| send(&socket, pieces));
+            running.whole_output()
+        });
+        output.map_err(|fault| self.message(on, fault))
+    }
+
+    /// Runs the program while one thread writes its input and this one reads its
+    /// answers: for more of both than is kept at once.
+    pub fn run_beside<T>(
+        &self,
+        write: impl FnOnce(&mut Input) -> io::Result<()> + Send,
+        read: impl FnOnce(&mut Answers) -> Result<T, String>,
+    ) -> Result<T, String> {
+        let (socket, running) = self.start_with_stream()?;
+        let taken = running.taken.clone();
+        let mut answers = Answers::new(*self, running);
+        thread::scope(|scope| {
+            scope.spawn(|| {
+                let mut input = Input::new(Counted { socket, taken });
+                // The same here; it shows in the answers.
+                write(&mut input).and_then(|()| input.flush())
+            });
+            let result = read(&mut answers);
+            // It may go on, if more was answered than was read.
+            answers.running().kill();
+            result
+        })
+    }
+
+    fn start_with_stream(&self) -> Result<(UnixStream, Running), String> {
+        let start = || {
+            let (ours, theirs) = UnixStream::pair()?;
+            ours.set_write_timeout(Some(self.limit))?;
+            Ok((ours, self.start(theirs.into())?))
+        };
+        start().map_err(|error| self.cannot_be_run(error))
+    }
+
+    fn start_with_datagrams(&self) -> Result<(UnixDatagram, Running), String> {
+        let start = || {
+            let (ours, theirs) = UnixDatagram::pair()?;
+            ours.set_write_timeout(Some(self.limit))?;
+            Ok((ours, self.start(theirs.into())?))
+        };
+        start().map_err(|error| self.cannot_be_run(error))
+    }
+
+    fn start(&self, input: OwnedFd) -> io::Result<Running> {
+        let (ours, theirs) = UnixStream::pair()?;
+        let child = Command::new(self.path)
+            .stdin(input)
+            .stdout(OwnedFd::from(theirs))
+            .spawn()?;
+        Ok(Running {
+            child,
+            output: ours,
+            limit: self.limit,
+            deadline: Instant::now() + self.limit,
+            room: LONGEST_OUTPUT,
+            taken: Arc::default(),
+            taken_before: 0,
+        })
+    }
+
+    fn cannot_be_run(&self, error: io::Error) -> String {
+        format!("{}: cannot be run: {error}", self.path)
+    }
+
+    /// What is said of the program when it was run on this.
+    pub fn message(&self, on: impl Display, fault: String) -> String {
+        format!("{}: {on}: {fault}", self.path)
+    }
 }
 
 /// Sends the pieces, and then empty ones: they are read as the end of the input,
 /// which a program may ask for again.
-fn send(socket: &UnixDatagram, pieces: &[&[u8]]) {
+fn send(socket: &UnixDatagram, pieces: &[&[u8]]) -> io::Result<()> {
     let ends: [&[u8]; 3] = [&[]; 3];
     for piece in pieces.iter().chain(&ends) {
-        // A program may end before it has read everything: no error.
-        if socket.send(piece).is_err() {
-            break;
+        while let Err(error) = socket.send(piece) {
+            if error.kind() != ErrorKind::Interrupted {
+                return Err(error);
+            }
+        }
+    }
+    Ok(())
+}
+
+/// The input of a program, where it is too much to be kept at once.
+pub type Input = BufWriter<Counted>;
+
+/// Counts what the program takes of its input.
+pub struct Counted {
+    socket: UnixStream,
+    taken: Arc<AtomicU64>,
+}
+
+impl Write for Counted {
+    fn write(&mut self, bytes: &[u8]) -> io::Result<usize> {
+        let count = self.socket.write(bytes)?;
+        self.taken.fetch_add(count as u64, Ordering::Relaxed);
+        Ok(count)
+    }
+
+    fn flush(&mut self) -> io::Result<()> {
+        self.socket.flush()
+    }
+}
+
+/// A program that has been started. Reading gives its output, or an error once
+/// it is too late or too much.
+struct Running {
+    child: Child,
+    output: UnixStream,
+    limit: Duration,
+    deadline: Instant,
+    /// How many more bytes may come.
+    room: usize,
+    /// How many bytes of a long input were taken: now, and when the deadline was
+    /// last set.
+    taken: Arc<AtomicU64>,
+    taken_before: u64,
+}
+
+impl Read for Running {
+    fn read(&mut self, buffer: &mut [u8]) -> io::Result<usize> {
+        loop {
+            self.output.set_read_timeout(Some(self.time_left()))?;
+            match self.output.read(buffer) {
+                Ok(count) => {
+                    let room = self.room.checked_sub(count);
+                    self.room = room.ok_or(ErrorKind::FileTooLarge)?;
+                    return Ok(count);
+                }
+                Err(error) if !is_timeout(&error) => return Err(error),
+                Err(_) if self.has_taken_more() => self.set_deadline(),
+                Err(_) => return Err(ErrorKind::TimedOut.into()),
+            }
         }
     }
 }
 
-fn successful(program: &str, output: io::Result<Output>) -> Result<Vec<u8>, String> {
-    match output {
-        Ok(output) if output.status.success() => Ok(output.stdout),
-        Ok(output) => Err(format!("{program}: {}", output.status)),
-        Err(error) => Err(format!("{program}: {error}")),
+/// Systems call it by one or the other name.
+fn is_timeout(error: &io::Error) -> bool {
+    matches!(error.kind(), ErrorKind::WouldBlock | ErrorKind::TimedOut)
+}
+
+impl Running {
+    fn set_deadline(&mut self) {
+        self.deadline = Instant::now() + self.limit;
+        self.taken_before = self.taken.load(Ordering::Relaxed);
+    }
+
+    fn has_taken_more(&self) -> bool {
+        self.taken.load(Ordering::Relaxed) > self.taken_before
+    }
+
+    /// At least a moment: what has come already is read, however late it is.
+    fn time_left(&self) -> Duration {
+        let left = self.deadline.saturating_duration_since(Instant::now());
+        left.max(Duration::from_millis(1))
+    }
+
+    fn whole_output(&mut self) -> Result<Vec<u8>, String> {
+        let mut output = Vec::new();
+        match self.read_to_end(&mut output).and_then(|_| self.wait()) {
+            Ok(status) if status.success() => Ok(output),
+            Ok(status) => Err(status.to_string()),
+            Err(error) => Err(self.give_up(error, DID_NOT_END)),
+        }
+    }
+
+    /// Waits for the end of the program, after that of its output: mostly there
+    /// is little between them.
+    fn wait(&mut self) -> io::Result<ExitStatus> {
+        for looks in 0.. {
+            if let Some(status) = self.child.try_wait()? {
+                return Ok(status);
+            }
+            if looks < SOON {
+                thread::yield_now();
+            } else if Instant::now() < self.deadline {
+                thread::sleep(Duration::from_millis(1));
+            } else {
+                break;
+            }
+        }
+        Err(ErrorKind::TimedOut.into())
+    }
+
+    /// Kills the program, and says why; `late` says what it has not done in time.
+    fn give_up(&mut self, error: io::Error, late: &str) -> String {
+        let killed = self.kill();
+        let limit = self.limit.as_secs();
+        match error.kind() {
+            ErrorKind::TimedOut if killed => {
+                format!("{late} within {limit} s (--limit), and was killed")
+            }
+            ErrorKind::TimedOut => format!(
+                "has ended, but something that it started \
+                 kept its output open for {limit} s (--limit)"
+            ),
+            ErrorKind::FileTooLarge => {
+                format!("has written more than {LONGEST_OUTPUT} bytes, and was killed")
+            }
+            _ => error.to_string(),
+        }
+    }
+
+    /// Kills the program and what it has started; false if it had ended already.
+    /// It could be made the leader of a group, which is killed more surely; but
+    /// then an interrupt from the terminal would end this program alone.
+    fn kill(&mut self) -> bool {
+        if let Ok(Some(_)) = self.child.try_wait() {
+            return false;
+        }
+        let started = started_by(self.child.id());
+        let _ = self.child.kill();
+        if !started.is_empty() {
+            kill_all(&started);
+        }
+        self.set_deadline();
+        let _ = self.wait();
+        true
+    }
+}
+
+/// The processes that a process has started, those that they have started, and
+/// so on; none where the system does not tell.
+fn started_by(process: u32) -> Vec<u32> {
+    let list = fs::read_to_string(format!("/proc/{process}/task/{process}/children"));
+    let list = list.unwrap_or_default();
+    let children = list.split_whitespace().filter_map(|word| word.parse().ok());
+    children
+        .flat_map(|child| [vec![child], started_by(child)].concat())
+        .collect()
+}
+
+/// The standard library kills only what it has started itself; a shell kills any.
+fn kill_all(processes: &[u32]) {
+    let processes: Vec<String> = processes.iter().map(u32::to_string).collect();
+    let command = format!("kill -KILL {}", processes.join(" "));
+    let _ = Command::new("sh")
+        .args(["-c", &command])
+        .stdin(Stdio::null())
+        .stdout(Stdio::null())
+        .stderr(Stdio::null())
+        .status();
+}
+
+/// The answers of a program that gives many.
+pub struct Answers<'a> {
+    program: Program<'a>,
+    output: BufReader<Running>,
+    /// The case whose answer is read, or was read last.
+    case: u64,
+}
+
+impl<'a> Answers<'a> {
+    fn new(program: Program<'a>, running: Running) -> Answers<'a> {
+        Answers {
+            program,
+            output: BufReader::new(running),
+            case: 0,
+        }
+    }
+
+    /// What is read from now on is the answer to this case. It has its own time,
+    /// and its own room.
+    pub fn begin(&mut self, case: u64) {
+        self.case = case;
+        self.running().set_deadline();
+        self.running().room = LONGEST_OUTPUT;
+    }
+
+    /// Reads a line with its end, or what is left of the output. If that is
+    /// nothing, the program has to have ended well.
+    pub fn line(&mut self, bytes: &mut Vec<u8>) -> Result<(), String> {
+        match self.output.read_until(b'\n', bytes) {
+            Ok(0) => self.wait("case"),
+            Ok(_) => Ok(()),
+            Err(error) => Err(self.give_up("case", error, GAVE_NO_ANSWER)),
+        }
+    }
+
+    /// Reads so many bytes, or what is left of the output.
+    pub fn bytes(&mut self, count: usize, bytes: &mut Vec<u8>) -> Result<(), String> {
+        let read = self.output.by_ref().take(count as u64).read_to_end(bytes);
+        read.map(drop)
+            .map_err(|error| self.give_up("case", error, GAVE_NO_ANSWER))
+    }
+
+    /// Whether the last answer was all; then the program has to end well.
+    pub fn is_at_end(&mut self) -> Result<bool, String> {
+        self.running().set_deadline();
+        match self.output.fill_buf().map(<[u8]>::is_empty) {
+            Ok(true) => self.wait("after case").map(|()| true),
+            Ok(false) => Ok(false),
+            Err(error) => Err(self.give_up("after case", error, DID_NOT_END)),
+        }
+    }
+
+    fn wait(&mut self, place: &str) -> Result<(), String> {
+        match self.running().wait() {
+            Ok(status) if status.success() => Ok(()),
+            Ok(status) => Err(self.message(place, status.to_string())),
+            Err(error) => Err(self.give_up(place, error, DID_NOT_END)),
+        }
+    }
+
+    fn give_up(&mut self, place: &str, error: io::Error, late: &str) -> String {
+        let fault = self.running().give_up(error, late);
+        self.message(place, fault)
+    }
+
+    fn message(&self, place: &str, fault: String) -> String {
+        let place = format_args!("{place} {}", self.case);
+        self.program.message(place, fault)
+    }
+
+    fn running(&mut self) -> &mut Running {
+        self.output.get_mut()
     }
 }

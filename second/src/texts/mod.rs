@@ -35,5 +35,6 @@ pub use items::{assemble_body, operation_name};
 pub use listed::{heading, listed, Listed};
 pub use scenario::{
     answerable, assemble, assemble_file, assemble_input, bytes_of, read_file, Line, Scenario,
+    Written,
 };
-pub use values::quoted;
+pub use values::{digit_character, hex_text, quoted};

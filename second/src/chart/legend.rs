@@ -1,0 +1,72 @@
+//! What the signs mean.
+
+use super::ladder::Form;
+use super::layout::{Columns, MARGIN, STRIP_WIDTH};
+use super::signs::{draw_break, draw_hold, draw_point, draw_shaft, draw_strip};
+use super::svg::{Anchor, Spot, Svg, SMALL};
+
+/// Two columns of signs, and how to read the figures; says where it ends.
+pub fn draw_legend(svg: &mut Svg, columns: &Columns, top: i32) -> i32 {
+    const STEP: i32 = 28;
+    const HALF: i32 = 11;
+    type Sample = fn(&mut Svg, Spot);
+    const SAMPLES: [(Sample, &str); 10] = [
+        (
+            |svg, spot| sample_arrow(svg, Form::Full, spot),
+            "event, operation, routing, or report",
+        ),
+        (
+            |svg, spot| sample_arrow(svg, Form::Notification, spot),
+            "report that only notifies: the call goes on",
+        ),
+        (
+            |svg, spot| sample_arrow(svg, Form::Refused, spot),
+            "refused, with the number of the refusal: nothing has changed",
+        ),
+        (
+            |svg, (x, y)| draw_hold(svg, x, y - HALF, y + HALF),
+            "the switch holds the call at a detection point",
+        ),
+        (
+            |svg, (x, y)| draw_break(svg, x - 12, x + 12, y),
+            "a minute or more passes",
+        ),
+        (
+            |svg, (x, y)| draw_strip(svg, "granted", x - STRIP_WIDTH / 2, y - HALF, y + HALF),
+            "a charged period is granted; its clock does not run",
+        ),
+        (
+            |svg, (x, y)| draw_strip(svg, "running", x - STRIP_WIDTH / 2, y - HALF, y + HALF),
+            "its clock runs, up to the report",
+        ),
+        (
+            |svg, (x, y)| svg.line("thick", (x, y - HALF), (x, y + HALF)),
+            "control relationship with the service node",
+        ),
+        (
+            |svg, (x, y)| svg.line("thin", (x, y - HALF), (x, y + HALF)),
+            "monitor relationship",
+        ),
+        (
+            |svg, (x, y)| svg.line("absent", (x, y - HALF), (x, y + HALF)),
+            "no relationship; no leg; no open call",
+        ),
+    ];
+    svg.line("rule", (MARGIN, top), (columns.width - MARGIN, top));
+    let half = SAMPLES.len() / 2;
+    for (place, (sample, text)) in SAMPLES.into_iter().enumerate() {
+        let x = MARGIN + (place / half) as i32 * (columns.width * 11 / 20);
+        let y = top + 24 + (place % half) as i32 * STEP;
+        sample(svg, (x + 28, y));
+        svg.text(&SMALL, Anchor::Start, (x + 68, y + 4), text);
+    }
+    let y = top + 24 + half as i32 * STEP + 4;
+    let figures = "9/2 is detection point 9 of leg 2. Times and periods count tenths of a second.";
+    svg.text(&SMALL, Anchor::Start, (MARGIN, y), figures);
+    y
+}
+
+fn sample_arrow(svg: &mut Svg, form: Form, (x, y): Spot) {
+    draw_shaft(svg, form, x - 28, x + 28, y, None);
+    draw_point(svg, form, x + 28, y, 1);
+}

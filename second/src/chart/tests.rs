@@ -1,0 +1,411 @@
+//! What is drawn of some scenarios; and of every scenario, that the page keeps
+//! its order: no text runs into another one or over the edge.
+
+use super::ladder::{Charge, Chart, Form, Ladder, Party, Row, Run, CALLS};
+use super::page;
+use super::play::{Cause, Played};
+use super::svg::{Font, FONTS, SPACE};
+use crate::compare::generate;
+use crate::paper::forms::{Leg, Tenths};
+use crate::paper::listing;
+use crate::paper::record::{Point, Relationship};
+use crate::texts::{self, Scenario};
+
+/// The scenario that the README shows.
+const PREPAID: &str = "\
+-- A prepaid call with an hour granted. The hour runs from the answer.
+profile release 120
+    0 call 1 setup 4/4915112345 service 17
+    5 call 1 request-report 7/2 notify, 9/1 interrupted, 9/2 interrupted
+    5 call 1 apply-charging leg 1 period 36000
+    6 call 1 continue
+   30 call 1 seized
+  130 call 1 answer
+-- An hour after the grant nothing is over; an hour after the answer it is.
+36005 call 1 period-over leg 1
+36129 call 1 period-over leg 1
+36130 call 1 period-over leg 1
+36135 call 1 apply-charging leg 1 period 36000
+40135 call 1 clear leg 1 cause 16
+40136 call 1 release";
+
+fn scenario(text: &str) -> Scenario {
+    Scenario {
+        name: "test".to_string(),
+        text: text.to_string(),
+        lines: texts::assemble("test", text).expect("the text is good"),
+    }
+}
+
+fn played(text: &str) -> Played {
+    Played::of(&scenario(text))
+}
+
+/// The only ladder of a scenario.
+fn ladder(text: &str) -> Ladder {
+    let played = played(text);
+    let mut ladders = Chart::of(&played).ladders;
+    assert_eq!(ladders.len(), 1);
+    ladders.remove(0)
+}
+
+fn run<T>(value: T, from: usize, to: Option<usize>) -> Run<T> {
+    Run { value, from, to }
+}
+
+/// Each arrow of a row in short.
+fn arrows(row: &Row) -> Vec<(Party, Party, Form, String)> {
+    let label = |label: &super::words::Label| {
+        let details = label.details.join(", ");
+        format!("{} {details}", label.name).trim_end().to_string()
+    };
+    let arrows = row.arrows.iter();
+    let short = arrows.map(|arrow| (arrow.from, arrow.to, arrow.form, label(&arrow.label)));
+    short.collect()
+}
+
+/// The strip is hollow from the grant to the answer, and filled from there to
+/// the report; a second one is filled from the grant on.
+#[test]
+fn prepaid_charges() {
+    let charge = |granted, started, ended, reported| Charge {
+        leg: Leg::One,
+        period: Tenths(36000),
+        granted,
+        started: Some(started),
+        ended: Some(ended),
+        reported: Some(Tenths(reported)),
+    };
+    let expected = [charge(2, 5, 8, 36000), charge(9, 9, 10, 4000)];
+    assert_eq!(ladder(PREPAID).charges, expected);
+}
+
+#[test]
+fn prepaid_notes() {
+    let notes: Vec<String> = ladder(PREPAID)
+        .charges
+        .iter()
+        .flat_map(Charge::notes)
+        .map(|note| format!("{} {}, {}", note.row, note.name, note.detail))
+        .collect();
+    let expected = [
+        "2 36000 granted, not running",
+        "5 clock starts, at the answer",
+        "8 36000 elapsed, 1 h",
+        "9 36000 granted, clock starts",
+        "10 4000 elapsed, 6 min 40 s",
+    ];
+    assert_eq!(notes, expected);
+}
+
+/// The bars begin where an item interrupts, and end where the call goes on or
+/// is over.
+#[test]
+fn prepaid_holds() {
+    let expected = [
+        run(Point::CollectedInfo, 0, Some(3)),
+        run(Point::Disconnect1, 10, Some(11)),
+    ];
+    assert_eq!(ladder(PREPAID).holds, expected);
+}
+
+#[test]
+fn prepaid_rows() {
+    let ladder = ladder(PREPAID);
+    let rows = &ladder.rows;
+    assert_eq!(
+        arrows(&rows[3]),
+        [
+            (
+                Party::ServiceNode,
+                Party::Switch,
+                Form::Full,
+                "Continue".to_string()
+            ),
+            (
+                Party::Switch,
+                Party::Called,
+                Form::Full,
+                "Routing to 4915112345, answer due by 1206 (in 2 min)".to_string()
+            ),
+        ]
+    );
+    assert_eq!(
+        arrows(&rows[5]),
+        [
+            (
+                Party::Called,
+                Party::Switch,
+                Form::Full,
+                "Answer".to_string()
+            ),
+            (
+                Party::Switch,
+                Party::ServiceNode,
+                Form::Notification,
+                "EventReportBCSM 7/2 Answer: notifies".to_string()
+            ),
+        ]
+    );
+    assert_eq!(
+        arrows(&rows[6]),
+        [(
+            Party::Switch,
+            Party::Switch,
+            Form::Refused,
+            "Period over leg 1".to_string()
+        )]
+    );
+    assert_eq!(rows[6].refusal.map(|refusal| refusal as u8), Some(14));
+    assert_eq!(rows[6].pause, Some(Tenths(35875)));
+    assert!(rows[6].comment.is_some());
+    assert!(rows.iter().all(|row| row.over == (row.number == 12)));
+    let changes = rows.iter().map(|row| row.relationship);
+    let changes: Vec<_> = changes
+        .enumerate()
+        .filter(|(_, now)| now.is_some())
+        .collect();
+    assert_eq!(
+        changes,
+        [
+            (0, Some(Relationship::Control)),
+            (11, Some(Relationship::None))
+        ]
+    );
+}
+
+/// Leg 2 is gone from the busy to the connect, and a hold gives way to another.
+#[test]
+fn legs_and_holds_of_a_follow_on_call() {
+    let ladder = ladder(
+        "profile continue 60
+        0 call 1 setup 4/49151 service 17
+        0 call 1 request-report 5/2 interrupted
+        0 call 1 continue
+        50 call 1 busy cause 17
+        60 call 1 request-report 9/1 interrupted, 9/2 interrupted
+        60 call 1 connect 4/49152
+        100 call 1 answer
+        500 call 1 clear leg 2 cause 16
+        510 call 1 clear leg 1 cause 16",
+    );
+    assert_eq!(ladder.open, [run((), 0, None)]);
+    assert_eq!(ladder.legs[0], [run((), 0, Some(8))]);
+    assert_eq!(ladder.legs[1], [run((), 0, Some(3)), run((), 5, Some(7))]);
+    let expected = [
+        run(Point::CollectedInfo, 0, Some(2)),
+        run(Point::Busy, 3, Some(5)),
+        run(Point::Disconnect2, 7, Some(8)),
+        run(Point::Disconnect1, 8, None),
+    ];
+    assert_eq!(ladder.holds, expected);
+}
+
+/// A charge that an abort drops has no figure, and one that is never reported
+/// has no end.
+#[test]
+fn charges_without_a_report() {
+    let granted = "profile continue 60
+        0 call 1 setup 4/49151 service 17
+        0 call 1 apply-charging leg 2 period 600\n";
+    let charge = |ended| Charge {
+        leg: Leg::Two,
+        period: Tenths(600),
+        granted: 1,
+        started: None,
+        ended,
+        reported: None,
+    };
+    assert_eq!(ladder(granted).charges, [charge(None)]);
+    let dropped = format!("{granted} 0 call 1 abort");
+    assert_eq!(ladder(&dropped).charges, [charge(Some(2))]);
+}
+
+/// Each call has its own ladder, in the order of the first items.
+#[test]
+fn ladders_of_two_calls() {
+    let played = played(
+        "profile release 60
+        0 call 9 setup 4/49151 service 17
+        0 call 2 setup 4/49152 service 17
+        1 call 9 continue
+        1 call 2 apply-charging leg 2 period 900
+        2 call 9 answer",
+    );
+    let ladders = Chart::of(&played).ladders;
+    let numbers = |ladder: &Ladder| ladder.rows.iter().map(|row| row.number).collect::<Vec<_>>();
+    assert_eq!(ladders[0].call, 9);
+    assert_eq!(numbers(&ladders[0]), [1, 3, 5]);
+    assert!(ladders[0].charges.is_empty());
+    assert_eq!(ladders[1].call, 2);
+    assert_eq!(numbers(&ladders[1]), [2, 4]);
+}
+
+#[test]
+fn more_calls_than_are_drawn() {
+    let played = played("profile continue 60\n0 call 1..20 setup 4/49151 service 17");
+    let chart = Chart::of(&played);
+    assert_eq!(chart.ladders.len(), CALLS);
+    assert_eq!(chart.calls_left_out, 20 - CALLS);
+    assert!(page::draw(&chart).contains("4 further calls are not drawn."));
+}
+
+/// Words name the call even of a malformed item; bytes do not, and a length that
+/// no item has is the end.
+#[test]
+fn malformed_items() {
+    let played = played(
+        "profile continue 120
+        0 call 1 clear leg 3 cause 16
+        bytes 00 0E 02 15 00 00 00 01 00 00 00 00 00 00
+        bytes 00 0D
+        0 call 1 continue",
+    );
+    let chart = Chart::of(&played);
+    assert_eq!(
+        arrows(&chart.ladders[0].rows[0]),
+        [(
+            Party::Caller,
+            Party::Switch,
+            Form::Refused,
+            "clear leg 3 cause 16".to_string()
+        )]
+    );
+    let strays: Vec<usize> = chart.strays.iter().map(|step| step.number).collect();
+    assert_eq!(strays, [2, 3]);
+    let end = chart.end.expect("the listing ends");
+    assert_eq!((end.cause, end.unread), (Cause::Length(3), 1));
+}
+
+#[test]
+fn refused_profile() {
+    let played = played("profile continue 9 -> refused 2\n0 call 1 setup 4/1 service 1");
+    let chart = Chart::of(&played);
+    assert!(chart.ladders.is_empty());
+    assert_eq!(chart.profile, "Profile: refused 2: profile malformed.");
+    let end = chart.end.expect("the listing ends");
+    assert_eq!((end.cause, end.unread), (Cause::Profile, 1));
+}
+
+/// No text of a scenario can break the picture.
+#[test]
+fn text_is_escaped() {
+    let text = "-- <b> & \"q\" \u{1}\u{ffff}\nprofile continue 60";
+    let picture = page::draw(&Chart::of(&played(text)));
+    assert!(picture.contains("<title id=\"title\">&lt;b&gt; &amp; &quot;q&quot; \u{fffd}\u{fffd}"));
+}
+
+/// Random scenarios as text; the first of them are the longest labels there are.
+fn texts_to_draw() -> Vec<String> {
+    let numbers = "127/591512345678901";
+    let entries = ["255/255 255 timer 65535"; 10].join(", ");
+    let longest = format!(
+        "-- {}
+        profile release 180 inhibiting 127/{} length 14 13 12 service 255 forwarding inhibiting
+        0 call 4294967295 setup {numbers} service 255
+        0 call 4294967295 setup {numbers} service 255 forwarded
+        0 call 4294967295 request-report {entries}
+        0 call 4294967295 apply-charging leg 1 period 863999
+        0 call 4294967295 apply-charging leg 2 period 863999
+        1 call 4294967295 connect {numbers}
+        4 call 4294967295 answer
+        -- {}
+        281474976710651 call 4294967295 period-over leg 3
+        281474976710651 call 4294967295 period-over leg 1
+        281474976710655 call 4294967295 clear leg 2 cause 127",
+        "word".repeat(100),
+        "4".repeat(15),
+        "a long comment ".repeat(30),
+    );
+    let random = (0..200).map(|seed| texts::explain(&generate::scenario(seed)));
+    [longest].into_iter().chain(random).collect()
+}
+
+/// What is played is what this program lists.
+#[test]
+fn played_answers_are_the_listing() {
+    for text in texts_to_draw() {
+        let scenario = scenario(&text);
+        let mut answers = b"item answer\n".to_vec();
+        for step in &Played::of(&scenario).steps {
+            listing::push_line(&mut answers, step.number as u64, &step.answer);
+        }
+        let listed = listing::of(&texts::bytes_of(&scenario.lines));
+        let listed_profile = b"item answer\n0 refused 2\n";
+        assert!(answers == listed || listed == listed_profile, "{text}");
+    }
+}
+
+/// A text on the page: its edges, and what it says.
+struct Room {
+    left: i32,
+    right: i32,
+    top: i32,
+    bottom: i32,
+    text: String,
+}
+
+/// The texts of a picture, with the room that each may take.
+fn rooms(picture: &str) -> Vec<Room> {
+    picture.lines().filter_map(read_room).collect()
+}
+
+fn read_room(line: &str) -> Option<Room> {
+    let rest = line.strip_prefix("<text ")?;
+    let (head, content) = rest.split_once('>')?;
+    let number = |name: &str| attribute(head, name)?.parse::<i32>().ok();
+    let (mut width, mut size, mut text) = (-SPACE, 0, String::new());
+    for part in content.split("<tspan ").skip(1) {
+        let (head, part) = part.split_once('>')?;
+        let (part, _) = part.split_once("</tspan>")?;
+        let class = attribute(head, "class")?;
+        let font: &Font = FONTS.into_iter().find(|font| font.class == class)?;
+        width += SPACE + font.width(part);
+        size = size.max(font.size);
+        text += part;
+    }
+    let (x, y) = (number("x")?, number("y")?);
+    let left = match attribute(head, "text-anchor") {
+        Some("middle") => x - width / 2,
+        Some("end") => x - width,
+        _ => x,
+    };
+    Some(Room {
+        left,
+        right: left + width,
+        top: y - size * 3 / 4,
+        bottom: y + size / 5,
+        text,
+    })
+}
+
+fn attribute<'a>(head: &'a str, name: &str) -> Option<&'a str> {
+    let (_, value) = head.split_once(&format!("{name}=\""))?;
+    value.split('"').next()
+}
+
+fn overlap(a: &Room, b: &Room) -> bool {
+    a.left < b.right && b.left < a.right && a.top < b.bottom && b.top < a.bottom
+}
+
+#[test]
+fn texts_keep_off_each_other() {
+    for scenario in texts_to_draw() {
+        let picture = page::draw(&Chart::of(&played(&scenario)));
+        let head = picture.lines().next().unwrap_or_default();
+        let size =
+            ["width", "height"].map(|name| attribute(head, name).and_then(|n| n.parse().ok()));
+        let [Some(width), Some(height)]: [Option<i32>; 2] = size else {
+            panic!("a picture has a size: {head}");
+        };
+        let rooms = rooms(&picture);
+        assert!(rooms.len() > 2, "{picture}");
+        for (place, a) in rooms.iter().enumerate() {
+            let on_page = a.left >= 0 && a.right <= width && a.top >= 0 && a.bottom <= height;
+            assert!(on_page, "`{}` leaves the page of\n{scenario}", a.text);
+            if let Some(b) = rooms[place + 1..].iter().find(|b| overlap(a, b)) {
+                panic!("`{}` meets `{}` in\n{scenario}", a.text, b.text);
+            }
+        }
+    }
+}
