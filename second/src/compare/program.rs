@@ -11,7 +11,7 @@ use std::io::{self, BufRead, BufReader, BufWriter, ErrorKind, Read, Write};
 use std::os::fd::OwnedFd;
 use std::os::unix::net::{UnixDatagram, UnixStream};
 use std::process::{Child, Command, ExitStatus, Stdio};
-use std::sync::atomic::{AtomicU64, Ordering};
+use std::sync::atomic::{AtomicBool, AtomicU64, Ordering};
 use std::sync::Arc;
 use std::time::{Duration, Instant};
 use std::{fs, thread};
@@ -21,9 +21,14 @@ use std::{fs, thread};
 /// at each read; and what were lost would show as a difference.
 pub const LONGEST_PIECE: usize = 4096;
 
-/// The most that a program may write: all in all, or as one of many answers. No
-/// listing of a scenario and no answer to a case comes near it.
+/// The most that a program may write, as one of many answers or all in all: no
+/// answer to a case comes near it. To a long input it may write so many times its
+/// length: the shortest item has 14 bytes, and no answer has a hundred.
 const LONGEST_OUTPUT: usize = 16 << 20;
+const OUTPUT_FOR_INPUT: usize = 8;
+
+/// How often a thread that writes a long input looks whether all is over.
+const LOOK: Duration = Duration::from_millis(200);
 
 /// So often it is looked without a pause whether a program has ended.
 const SOON: u32 = 100;
@@ -42,10 +47,11 @@ pub struct Program<'a> {
 
 impl Program<'_> {
     /// What the program writes when it is handed the input; `on` names the input
-    /// in messages. A thread of its own writes the input, so that no program
-    /// that does not read it blocks.
+    /// in messages. A thread of its own writes the input, so that the output
+    /// can be read meanwhile.
     pub fn output_of(&self, on: impl Display, input: &[u8]) -> Result<Vec<u8>, String> {
-        let (socket, mut running) = self.start_with_stream()?;
+        let (socket, mut running) = self.start_with_stream(self.limit)?;
+        running.most = LONGEST_OUTPUT.max(OUTPUT_FOR_INPUT * input.len());
         let output = thread::scope(|scope| {
             // A program may end before it has read everything: no error.
             scope.spawn(move || (&socket).write_all(input));
@@ -73,26 +79,29 @@ impl Program<'_> {
         write: impl FnOnce(&mut Input) -> io::Result<()> + Send,
         read: impl FnOnce(&mut Answers) -> Result<T, String>,
     ) -> Result<T, String> {
-        let (socket, running) = self.start_with_stream()?;
-        let taken = running.taken.clone();
+        let (socket, running) = self.start_with_stream(LOOK)?;
+        let flow = running.flow.clone();
         let mut answers = Answers::new(*self, running);
         thread::scope(|scope| {
             scope.spawn(|| {
-                let mut input = Input::new(Counted { socket, taken });
+                let mut input = Input::new(Watched { socket, flow });
                 // The same here; it shows in the answers.
                 write(&mut input).and_then(|()| input.flush())
             });
             let result = read(&mut answers);
             // It may go on, if more was answered than was read.
             answers.running().kill();
+            answers.running().flow.over.store(true, Ordering::Relaxed);
             result
         })
     }
 
-    fn start_with_stream(&self) -> Result<(UnixStream, Running), String> {
+    /// A write of the input is given up after some time: something that the
+    /// program has started may keep it open, and not read it.
+    fn start_with_stream(&self, timeout: Duration) -> Result<(UnixStream, Running), String> {
         let start = || {
             let (ours, theirs) = UnixStream::pair()?;
-            ours.set_write_timeout(Some(self.limit))?;
+            ours.set_write_timeout(Some(timeout))?;
             Ok((ours, self.start(theirs.into())?))
         };
         start().map_err(|error| self.cannot_be_run(error))
@@ -118,8 +127,9 @@ impl Program<'_> {
             output: ours,
             limit: self.limit,
             deadline: Instant::now() + self.limit,
-            room: LONGEST_OUTPUT,
-            taken: Arc::default(),
+            most: LONGEST_OUTPUT,
+            count: 0,
+            flow: Arc::default(),
             taken_before: 0,
         })
     }
@@ -149,19 +159,37 @@ fn send(socket: &UnixDatagram, pieces: &[&[u8]]) -> io::Result<()> {
 }
 
 /// The input of a program, where it is too much to be kept at once.
-pub type Input = BufWriter<Counted>;
+pub type Input = BufWriter<Watched>;
 
-/// Counts what the program takes of its input.
-pub struct Counted {
-    socket: UnixStream,
-    taken: Arc<AtomicU64>,
+/// What the thread that writes an input and the one that reads the answers know
+/// of each other.
+#[derive(Default)]
+struct Flow {
+    /// How many bytes of the input the program has taken.
+    taken: AtomicU64,
+    /// Nothing more is read.
+    over: AtomicBool,
 }
 
-impl Write for Counted {
+pub struct Watched {
+    socket: UnixStream,
+    flow: Arc<Flow>,
+}
+
+impl Write for Watched {
+    /// Tries again until all is over: how long a program may take is for the
+    /// reading thread to say.
     fn write(&mut self, bytes: &[u8]) -> io::Result<usize> {
-        let count = self.socket.write(bytes)?;
-        self.taken.fetch_add(count as u64, Ordering::Relaxed);
-        Ok(count)
+        loop {
+            match self.socket.write(bytes) {
+                Err(error) if is_timeout(&error) && !self.flow.over.load(Ordering::Relaxed) => {}
+                written => {
+                    let count = *written.as_ref().unwrap_or(&0);
+                    self.flow.taken.fetch_add(count as u64, Ordering::Relaxed);
+                    return written;
+                }
+            }
+        }
     }
 
     fn flush(&mut self) -> io::Result<()> {
@@ -176,11 +204,11 @@ struct Running {
     output: UnixStream,
     limit: Duration,
     deadline: Instant,
-    /// How many more bytes may come.
-    room: usize,
-    /// How many bytes of a long input were taken: now, and when the deadline was
-    /// last set.
-    taken: Arc<AtomicU64>,
+    /// How many bytes may come, and how many have come.
+    most: usize,
+    count: usize,
+    flow: Arc<Flow>,
+    /// How many bytes of the input were taken when the deadline was last set.
     taken_before: u64,
 }
 
@@ -190,9 +218,12 @@ impl Read for Running {
             self.output.set_read_timeout(Some(self.time_left()))?;
             match self.output.read(buffer) {
                 Ok(count) => {
-                    let room = self.room.checked_sub(count);
-                    self.room = room.ok_or(ErrorKind::FileTooLarge)?;
-                    return Ok(count);
+                    self.count += count;
+                    let is_too_much = self.count > self.most;
+                    return match is_too_much {
+                        true => Err(ErrorKind::FileTooLarge.into()),
+                        false => Ok(count),
+                    };
                 }
                 Err(error) if !is_timeout(&error) => return Err(error),
                 Err(_) if self.has_taken_more() => self.set_deadline(),
@@ -210,11 +241,11 @@ fn is_timeout(error: &io::Error) -> bool {
 impl Running {
     fn set_deadline(&mut self) {
         self.deadline = Instant::now() + self.limit;
-        self.taken_before = self.taken.load(Ordering::Relaxed);
+        self.taken_before = self.flow.taken.load(Ordering::Relaxed);
     }
 
     fn has_taken_more(&self) -> bool {
-        self.taken.load(Ordering::Relaxed) > self.taken_before
+        self.flow.taken.load(Ordering::Relaxed) > self.taken_before
     }
 
     /// At least a moment: what has come already is read, however late it is.
@@ -253,7 +284,7 @@ impl Running {
     /// Kills the program, and says why; `late` says what it has not done in time.
     fn give_up(&mut self, error: io::Error, late: &str) -> String {
         let killed = self.kill();
-        let limit = self.limit.as_secs();
+        let (limit, most) = (self.limit.as_secs(), self.most);
         match error.kind() {
             ErrorKind::TimedOut if killed => {
                 format!("{late} within {limit} s (--limit), and was killed")
@@ -262,9 +293,10 @@ impl Running {
                 "has ended, but something that it started \
                  kept its output open for {limit} s (--limit)"
             ),
-            ErrorKind::FileTooLarge => {
-                format!("has written more than {LONGEST_OUTPUT} bytes, and was killed")
+            ErrorKind::FileTooLarge if killed => {
+                format!("has written more than {most} bytes, and was killed")
             }
+            ErrorKind::FileTooLarge => format!("has written more than {most} bytes"),
             _ => error.to_string(),
         }
     }
@@ -332,7 +364,7 @@ impl<'a> Answers<'a> {
     pub fn begin(&mut self, case: u64) {
         self.case = case;
         self.running().set_deadline();
-        self.running().room = LONGEST_OUTPUT;
+        self.running().count = 0;
     }
 
     /// Reads a line with its end, or what is left of the output. If that is
