@@ -1,10 +1,10 @@
 //! Running another program on given bytes, within limits: it has to end in time,
 //! and may not write for ever. A program that does not keep to that is killed.
 //!
-//! Input and output go through sockets. A read or a write there can be given up
-//! after some time, which a pipe does not allow. So no thread has to keep watch,
-//! and nothing that the program has started can hold this one up by keeping the
-//! program's input or output open.
+//! Input and output are written to and read from sockets. A read or a write there
+//! can be given up after some time, which a pipe does not allow. So no thread has
+//! to keep watch, and nothing that the program has started can hold this one up
+//! by keeping the program's input or output open.
 
 use std::fmt::Display;
 use std::io::{self, BufRead, BufReader, BufWriter, ErrorKind, Read, Write};
@@ -50,7 +50,7 @@ impl Program<'_> {
     /// in messages. A thread of its own writes the input, so that the output
     /// can be read meanwhile.
     pub fn output_of(&self, on: impl Display, input: &[u8]) -> Result<Vec<u8>, String> {
-        let (socket, mut running) = self.start_with_stream(self.limit)?;
+        let (socket, mut running) = self.start_with_stream(self.limit, Self::start)?;
         running.most = LONGEST_OUTPUT.max(OUTPUT_FOR_INPUT * input.len());
         let output = thread::scope(|scope| {
             // A program may end before it has read everything: no error.
@@ -79,7 +79,7 @@ impl Program<'_> {
         write: impl FnOnce(&mut Input) -> io::Result<()> + Send,
         read: impl FnOnce(&mut Answers) -> Result<T, String>,
     ) -> Result<T, String> {
-        let (socket, running) = self.start_with_stream(LOOK)?;
+        let (socket, running) = self.start_with_stream(LOOK, Self::start_with_pipe)?;
         let flow = running.flow.clone();
         let mut answers = Answers::new(*self, running);
         thread::scope(|scope| {
@@ -98,11 +98,15 @@ impl Program<'_> {
 
     /// A write of the input is given up after some time: something that the
     /// program has started may keep it open, and not read it.
-    fn start_with_stream(&self, timeout: Duration) -> Result<(UnixStream, Running), String> {
+    fn start_with_stream(
+        &self,
+        timeout: Duration,
+        start: fn(&Self, OwnedFd) -> io::Result<Running>,
+    ) -> Result<(UnixStream, Running), String> {
         let start = || {
             let (ours, theirs) = UnixStream::pair()?;
             ours.set_write_timeout(Some(timeout))?;
-            Ok((ours, self.start(theirs.into())?))
+            Ok((ours, start(self, theirs.into())?))
         };
         start().map_err(|error| self.cannot_be_run(error))
     }
@@ -118,9 +122,25 @@ impl Program<'_> {
 
     fn start(&self, input: OwnedFd) -> io::Result<Running> {
         let (ours, theirs) = UnixStream::pair()?;
+        self.spawn(input, OwnedFd::from(theirs).into(), ours)
+    }
+
+    /// A pipe takes many small writes in much less time than a socket does; a
+    /// thread hands on what comes. It is left to itself if something keeps the
+    /// pipe open.
+    fn start_with_pipe(&self, input: OwnedFd) -> io::Result<Running> {
+        let (ours, mut theirs) = UnixStream::pair()?;
+        let mut running = self.spawn(input, Stdio::piped(), ours)?;
+        if let Some(mut pipe) = running.child.stdout.take() {
+            thread::spawn(move || io::copy(&mut pipe, &mut theirs));
+        }
+        Ok(running)
+    }
+
+    fn spawn(&self, input: OwnedFd, output: Stdio, ours: UnixStream) -> io::Result<Running> {
         let child = Command::new(self.path)
             .stdin(input)
-            .stdout(OwnedFd::from(theirs))
+            .stdout(output)
             .spawn()?;
         Ok(Running {
             child,
