@@ -128,7 +128,8 @@ const GROUPS: [(&str, &[Command]); 7] = [
                 takes: &[One(PROGRAM), One(FILE), Choice(LIMIT)],
                 streams: "> SVG",
                 does: "draws a scenario as a ladder diagram, with the answers that the \
-                    listing program PROGRAM gives; this program has to give the same",
+                    listing program PROGRAM gives; this program has to give the same; where \
+                    the text expects others, the item is marked",
                 run: |given| chart::run(program(given), given.word(FILE.name).unwrap_or_default()),
             },
         ],

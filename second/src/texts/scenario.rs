@@ -36,12 +36,25 @@ pub struct Scenario {
 
 /// The scenario in a file. A message names the file, and the line if there is
 /// one.
-pub fn read_file(file: &str) -> Result<Scenario, String> {
+fn read_file(file: &str) -> Result<Scenario, String> {
     let opened = File::open(file).map_err(|error| unreadable(file, &error))?;
     let text = read_text(file, opened)?;
     let lines = assemble(file, &text)?;
     let name = file.to_string();
     Ok(Scenario { name, text, lines })
+}
+
+/// A scenario with something to be listed: an item, or a profile that is to be
+/// refused.
+pub fn read_to_list(file: &str) -> Result<Scenario, String> {
+    let scenario = read_file(file)?;
+    match &scenario.lines[..] {
+        [profile] if profile.expected.is_none() => Err(format!(
+            "{file}: {}",
+            missing("items", "at least one behind the profile")
+        )),
+        _ => Ok(scenario),
+    }
 }
 
 /// The lines of a file.
