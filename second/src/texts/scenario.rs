@@ -1,9 +1,9 @@
 //! Reading a scenario: the lines of its text, and the bytes that they stand for.
 
 use super::answers::{self, is_answer, PROFILE_REFUSED};
-use super::items::{assemble_item, SMALL_LETTERS};
+use super::items::assemble_item;
 use super::profile::{self, assemble_profile};
-use super::values::{assemble_hex, expected, hex_text, missing, CALL, TIME};
+use super::values::{assemble_hex, expected, hex_text, in_small_letters, missing, CALL, TIME};
 use crate::paper::forms::{write_item, ITEM_LENGTHS, PROFILE_LENGTHS};
 use std::fs::File;
 use std::io::{self, Read};
@@ -223,7 +223,7 @@ fn no_line(words: &[&str], first: bool) -> String {
     let text = words.join(" ");
     let small: Vec<String> = words.iter().map(|word| word.to_lowercase()).collect();
     let small: Vec<&str> = small.iter().map(String::as_str).collect();
-    let capitals = |word, small| expected("word", word, &format!("{small} ({SMALL_LETTERS})"));
+    let capitals = |word, small| expected("word", word, &in_small_letters(word, small));
     match (words, &small[..]) {
         ([word, ..], ["profile", ..]) if first => capitals(word, "profile"),
         ([word, ..], ["bytes", ..]) => capitals(word, "bytes"),

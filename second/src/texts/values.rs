@@ -73,7 +73,7 @@ impl Field {
         let in_digits = word.bytes().all(|byte| byte.is_ascii_digit());
         match word.parse() {
             Ok(number) if in_digits && number <= self.largest() => Ok(number),
-            _ => Err(self.unexpected(word, others)),
+            _ => Err(expected(self.name, word, &self.or_number(word, others))),
         }
     }
 
@@ -107,8 +107,11 @@ impl Field {
         missing(self.name, &self.range_text())
     }
 
-    fn unexpected(&self, word: &str, others: &str) -> String {
-        expected(self.name, word, &format!("{others}{}", self.range_text()))
+    fn or_number(&self, word: &str, others: &str) -> String {
+        match others {
+            "" => self.range_text(),
+            others => in_small_letters(word, &format!("{others}, or {}", self.range_text())),
+        }
     }
 
     fn range_text(&self) -> String {
@@ -216,6 +219,15 @@ pub fn too_many(field: &str, count: usize, most: u8) -> String {
 /// The message about a word, as all of them are.
 pub fn expected(field: &str, word: &str, what: &str) -> String {
     format!("{field} `{}`: expected {what}", quoted(word))
+}
+
+/// Words that are expected, for a message about this one: where it has capitals,
+/// they could be all that is wrong.
+pub fn in_small_letters(word: &str, words: &str) -> String {
+    match word.bytes().any(|byte| byte.is_ascii_uppercase()) {
+        true => format!("{words} (words are written in small letters)"),
+        false => words.to_string(),
+    }
 }
 
 /// The message about a word that is left out.
