@@ -37,18 +37,19 @@ use play::Played;
 pub fn run(program: Program, file: &str) -> Result<bool, String> {
     let scenario = texts::read_to_list(file)?;
     let input = texts::bytes_of(&scenario.lines);
-    let theirs = program.output_of(file, &input)?;
+    let name = &scenario.name;
+    let theirs = program.output_of(name, &input)?;
     let ours = listing::of(&input);
     let played = Played::of(&scenario);
     if theirs != ours {
-        let difference = difference(&played, program.path, &theirs, &ours);
-        output::complain(format_args!("{file}{difference}"));
+        let difference = difference(&played, &program.name(), &theirs, &ours);
+        output::complain(format_args!("{name}{difference}"));
         return Ok(false);
     }
     let differences = texts::differences(&answered_in(&theirs, &scenario)?);
     output::write(page::draw(&Chart::of(&played, &differences)).as_bytes())?;
     for difference in &differences {
-        output::complain(difference.message(file));
+        output::complain(difference.message(name));
     }
     Ok(differences.is_empty())
 }

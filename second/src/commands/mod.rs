@@ -292,6 +292,7 @@ fn find(name: &str) -> Result<&'static Command, String> {
     all().find(|command| command.name == name).ok_or_else(|| {
         let closest = arguments::closest(name, names());
         let closest = closest.map_or(String::new(), |name| format!(", but `{name}`"));
+        let name = output::visible(name);
         format!("there is no command `{name}`{closest} (see second --help)")
     })
 }

@@ -1,6 +1,7 @@
 //! The values that stand in a text, from words to bytes and back; and the
 //! messages for words that are none.
 
+use crate::output;
 use crate::paper::forms::{Reader, CAUSES, DEFAULT_TIMERS, DIGIT_COUNTS, NATURES, PERIODS};
 use std::ops::RangeInclusive;
 
@@ -235,15 +236,11 @@ pub fn missing(field: &str, what: &str) -> String {
     format!("{field} missing: expected {what}")
 }
 
-/// A word with nothing in it that could disturb the message.
-pub fn quoted(word: &str) -> String {
+/// The word as a message repeats it.
+fn quoted(word: &str) -> String {
     let mut text: String = word.chars().take(LONGEST_QUOTED).collect();
     if text.len() < word.len() {
         text += "..";
     }
-    let shown = |character: char| match character.is_control() {
-        true => character.escape_default().to_string(),
-        false => character.to_string(),
-    };
-    text.chars().map(shown).collect()
+    output::visible(&text)
 }
