@@ -89,7 +89,7 @@ const GROUPS: [(&str, &[Command]); 7] = [
         }],
     ),
     (
-        "Scenarios as text: a profile and items in words (src/texts/mod.rs shows one)",
+        "Scenarios as text: a profile and items in words (docs/SCENARIOS.md has the form)",
         &[
             Command {
                 name: "assemble",
@@ -273,7 +273,11 @@ pub fn run(words: &[&str]) -> Result<bool, String> {
     };
     match (*name, words) {
         ("help" | "--help" | "-h", []) => write(usage::whole().as_bytes()),
-        ("help" | "--help" | "-h", [name, ..]) => help(find(name)?),
+        ("help" | "--help" | "-h", [name]) => help(find(name)?),
+        ("help" | "--help" | "-h", [_, word, ..]) => {
+            let error = arguments::too_many(word);
+            Err(format!("{name}: {error} (see second --help)"))
+        }
         (name, ["help"]) => help(find(name)?),
         (name, words) if words.iter().any(|word| ["--help", "-h"].contains(word)) => {
             help(find(name)?)
