@@ -137,7 +137,8 @@ struct Program {
 impl Program {
     /// How long it takes for the input, and what it says.
     fn time(&self, input: &Path, stdout: Stdio) -> io::Result<(Duration, String)> {
-        let failed = |error: String| io::Error::other(format!("{}: {error}", self.path.display()));
+        let name = output::visible(&self.path.to_string_lossy());
+        let failed = |error: String| io::Error::other(format!("{name}: {error}"));
         let stdin = File::open(input)?;
         let start = Instant::now();
         let output = Command::new(&self.path)

@@ -218,11 +218,10 @@ impl<'a> Chart<'a> {
         }
     }
 
-    pub fn has_differences(&self) -> bool {
+    /// Whether a row has a mark.
+    pub fn has_marks(&self) -> bool {
         let mut rows = self.ladders.iter().flat_map(|ladder| &ladder.rows);
-        !self.undrawn.is_empty()
-            || rows.any(|row| row.expected.is_some())
-            || self.strays.iter().any(|stray| stray.expected.is_some())
+        rows.any(|row| row.expected.is_some())
     }
 }
 

@@ -5,9 +5,9 @@ use super::layout::{Columns, MARGIN, STRIP_WIDTH};
 use super::signs::{draw_break, draw_hold, draw_point, draw_shaft, draw_strip};
 use super::svg::{Anchor, Spot, Svg, DIFFERS_BOX, SMALL};
 
-/// Two columns of signs, and how to read the figures; says where it ends. What
-/// differs is there only if something does.
-pub fn draw_legend(svg: &mut Svg, columns: &Columns, differs: bool, top: i32) -> i32 {
+/// Two columns of signs, and how to read the figures; says where it ends. The
+/// mark of a difference is among them only if the ladders have one.
+pub fn draw_legend(svg: &mut Svg, columns: &Columns, has_marks: bool, top: i32) -> i32 {
     const STEP: i32 = 28;
     const HALF: i32 = 11;
     type Sample = fn(&mut Svg, Spot);
@@ -68,10 +68,10 @@ pub fn draw_legend(svg: &mut Svg, columns: &Columns, differs: bool, top: i32) ->
     for (place, sample) in SAMPLES.into_iter().enumerate() {
         draw_sample(place / half, place % half, sample);
     }
-    if differs {
+    if has_marks {
         draw_sample(0, half, DIFFERENCE);
     }
-    let rows = half + usize::from(differs);
+    let rows = half + usize::from(has_marks);
     let y = top + 24 + rows as i32 * STEP + 4;
     let figures = "9/2 is detection point 9 of leg 2. Times and periods count tenths of a second.";
     svg.text(&SMALL, Anchor::Start, (MARGIN, y), figures);

@@ -213,9 +213,7 @@ impl Svg {
              {content}</svg>\n"
         )
     }
-}
 
-impl Svg {
     /// The style sheet; few pictures have differences, so the others go without
     /// their style.
     fn style(&self) -> String {

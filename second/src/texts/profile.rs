@@ -180,15 +180,12 @@ fn take_list<'a>(
     field: &Field,
     words: WordList<'a>,
 ) -> Result<(WordList<'a>, WordList<'a>), String> {
-    let [first, rest @ ..] = words else {
-        return Ok((&[], words));
-    };
-    if *first != keyword {
-        return Ok((&[], words));
-    }
-    match split_before_keyword(rest) {
-        ([], _) => Err(field.missing()),
-        list_and_rest => Ok(list_and_rest),
+    match words {
+        [first, rest @ ..] if *first == keyword => match split_before_keyword(rest) {
+            ([], _) => Err(field.missing()),
+            split => Ok(split),
+        },
+        _ => Ok((&[], words)),
     }
 }
 
