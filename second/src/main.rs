@@ -32,7 +32,9 @@ fn main() -> ExitCode {
         env::args_os().skip(1).map(OsString::into_string).collect();
     let result = match arguments {
         Ok(words) => commands::run(&words.iter().map(String::as_str).collect::<Vec<_>>()),
-        Err(word) => Err(format!("argument {word:?}: expected text in UTF-8")),
+        Err(word) => Err(format!(
+            "argument {word:?}: expected text in UTF-8 (see second --help)"
+        )),
     };
     let status = match result {
         Ok(true) => WELL,

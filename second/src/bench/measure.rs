@@ -137,7 +137,8 @@ struct Program {
 impl Program {
     /// How long it takes for the input, and what it says.
     fn time(&self, input: &Path, stdout: Stdio) -> io::Result<(Duration, String)> {
-        let failed = |error: String| io::Error::other(format!("{}: {error}", self.path.display()));
+        let name = output::visible(&self.path.to_string_lossy());
+        let failed = |error: String| io::Error::other(format!("{name}: {error}"));
         let stdin = File::open(input)?;
         let start = Instant::now();
         let output = Command::new(&self.path)
@@ -181,6 +182,8 @@ const WHOLE: Extent = Extent {
 
 /// Measures, and prints tables in Markdown.
 pub fn run(listing: &str, bench: &str, quick: bool) -> io::Result<()> {
+    try_to_start(listing)?;
+    try_to_start(bench)?;
     let extent = if quick { QUICK } else { WHOLE };
     let file = env::temp_dir().join(format!("second-bench-{}", process::id()));
     let measured = measure_listings(listing, &file, &extent)
@@ -188,6 +191,20 @@ pub fn run(listing: &str, bench: &str, quick: bool) -> io::Result<()> {
         .and_then(|()| measure_triggers(bench, &file, &extent));
     let removed = fs::remove_file(&file);
     measured.and(removed)
+}
+
+/// Starts a program and ends it: that it is not there is found before anything
+/// is printed.
+fn try_to_start(path: &str) -> io::Result<()> {
+    let mut command = Command::new(path);
+    let command = command.stdin(Stdio::null()).stdout(Stdio::null());
+    let started = command.stderr(Stdio::null()).spawn();
+    let mut child = started.map_err(|error| {
+        let path = output::visible(path);
+        io::Error::other(format!("{path}: cannot be run: {error}"))
+    })?;
+    child.kill()?;
+    child.wait().map(|_| ())
 }
 
 fn print(line: &str) -> io::Result<()> {

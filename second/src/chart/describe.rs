@@ -9,7 +9,8 @@ use super::words;
 pub fn description(chart: &Chart) -> String {
     let ladders = chart.ladders.iter().flat_map(ladder_sentences);
     let sentences = [chart.profile.clone()].into_iter().chain(ladders);
-    let sentences: Vec<String> = sentences.chain(notes(chart)).collect();
+    let sentences = sentences.chain(notes(chart)).chain(chart.undrawn.clone());
+    let sentences: Vec<String> = sentences.collect();
     sentences.join(" ")
 }
 
@@ -44,6 +45,7 @@ fn row_sentence(row: &Row) -> String {
     if row.over {
         parts.push("call over".to_string());
     }
+    parts.extend(row.expected.as_deref().map(words::expected));
     format!(
         "Item {} at {}: {}.",
         row.number,

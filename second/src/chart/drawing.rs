@@ -2,17 +2,17 @@
 
 use super::ladder::{Arrow, Charge, Form, Ladder, Note, Party, Row, Run};
 use super::layout::{
-    comment_height, place_rows, Columns, LabelLine, Placed, HEAD_HEIGHT, HEAD_WIDTH, HOLD_HALF,
-    LABEL_MARGIN, LINE, MARGIN, STRIP_DISTANCE, STRIP_WIDTH, STRIP_WORDS,
+    box_height, place_rows, Columns, LabelLine, Placed, TextBox, HEAD_HEIGHT, HEAD_WIDTH,
+    HOLD_HALF, LABEL_MARGIN, LINE, MARGIN, STRIP_DISTANCE, STRIP_WIDTH, STRIP_WORDS,
 };
 use super::signs::{
     draw_badge, draw_break, draw_hold, draw_loop, draw_point, draw_shaft, draw_strip,
     relationship_line,
 };
-use super::svg::{Anchor, Svg};
+use super::svg::{Anchor, Font, Svg};
 use super::svg::{
-    BADGE, CHARGE, CHARGE_NAME, COMMENT, DETAIL, HEADING, NAME, OVER, PALE_DETAIL, PALE_NAME,
-    PARTY, REFUSED, ROLE, SMALL, TIME,
+    BADGE, CHARGE, CHARGE_NAME, COMMENT, DETAIL, DIFFERS, DIFFERS_BOX, HEADING, NAME, OVER,
+    PALE_DETAIL, PALE_NAME, PARTY, REFUSED, ROLE, SMALL, TIME,
 };
 use super::words;
 use crate::paper::forms::{Leg, Tenths};
@@ -195,8 +195,8 @@ impl Drawing<'_> {
         if let (Some(length), Some(y)) = (row.pause, placed.pause) {
             self.draw_pause(svg, length, y);
         }
-        if let Some((top, lines)) = &placed.comment {
-            self.draw_comment(svg, *top, lines);
+        if let Some(comment) = &placed.comment {
+            self.draw_box(svg, "comment-box", &COMMENT, comment);
         }
         self.draw_time(svg, row, placed.item());
         for (arrow, (y, lines)) in row.arrows.iter().zip(&placed.arrows) {
@@ -211,6 +211,9 @@ impl Drawing<'_> {
             let spot = (self.x(Party::ServiceNode), placed.badges);
             let text = words::relationship(relationship);
             draw_badge(svg, "badge-box", &BADGE, spot, text);
+        }
+        if let Some(expected) = &placed.expected {
+            self.draw_box(svg, DIFFERS_BOX, &DIFFERS, expected);
         }
     }
 
@@ -253,14 +256,14 @@ impl Drawing<'_> {
         self.ladder.charges.iter().any(covers)
     }
 
-    fn draw_comment(&self, svg: &mut Svg, top: i32, lines: &[String]) {
+    fn draw_box(&self, svg: &mut Svg, class: &str, font: &Font, (top, lines): &TextBox) {
         let left = self.x(Party::Caller) + 14;
-        let widths = lines.iter().map(|line| COMMENT.width(line));
-        let size = (widths.max().unwrap_or(0) + 24, comment_height(lines));
-        svg.rect("comment-box", (left, top), size, 4);
+        let widths = lines.iter().map(|line| font.width(line));
+        let size = (widths.max().unwrap_or(0) + 24, box_height(lines));
+        svg.rect(class, (left, *top), size, 4);
         for (place, line) in lines.iter().enumerate() {
             let y = top + 19 + LINE * place as i32;
-            svg.text(&COMMENT, Anchor::Start, (left + 12, y), line);
+            svg.text(font, Anchor::Start, (left + 12, y), line);
         }
     }
 

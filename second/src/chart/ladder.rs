@@ -6,6 +6,8 @@ use super::words::{self, Label};
 use crate::paper::answer::{Accepted, Refusal};
 use crate::paper::forms::{kind, read_item, read_profile, Leg, Tenths};
 use crate::paper::record::{Mode, Point, Record, Relationship};
+use crate::texts::Group;
+use std::collections::BTreeSet;
 
 /// More calls than this are not drawn.
 pub const CALLS: usize = 16;
@@ -21,8 +23,17 @@ pub struct Chart<'a> {
     pub ladders: Vec<Ladder>,
     pub calls_left_out: usize,
     /// Malformed items that name no call.
-    pub strays: Vec<&'a Step>,
+    pub strays: Vec<Stray<'a>>,
     pub end: Option<&'a End>,
+    /// Messages about differences where not all the items are drawn.
+    pub undrawn: Vec<String>,
+}
+
+/// An item without a ladder.
+pub struct Stray<'a> {
+    pub step: &'a Step,
+    /// As in a row.
+    pub expected: Option<String>,
 }
 
 pub struct Ladder {
@@ -48,6 +59,8 @@ pub struct Row {
     /// The item first.
     pub arrows: Vec<Arrow>,
     pub refusal: Option<Refusal>,
+    /// The answer that the text expects, if it is another one.
+    pub expected: Option<String>,
     /// The relationship, where it changes.
     pub relationship: Option<Relationship>,
     pub over: bool,
@@ -172,7 +185,8 @@ impl Charge {
 }
 
 impl<'a> Chart<'a> {
-    pub fn of(played: &'a Played) -> Chart<'a> {
+    /// With a mark at every item whose answer differs from the expected one.
+    pub fn of(played: &'a Played, differences: &[Group]) -> Chart<'a> {
         let mut calls: Vec<u32> = Vec::new();
         for call in played.steps.iter().filter_map(|step| step.call) {
             if !calls.contains(&call) {
@@ -180,24 +194,58 @@ impl<'a> Chart<'a> {
             }
         }
         let steps = &played.steps;
-        let drawn = calls.iter().take(CALLS);
+        let calls_left_out = calls.len().saturating_sub(CALLS);
+        calls.truncate(CALLS);
+        let strays = steps.iter().filter(|step| step.call.is_none());
+        let strays = strays.map(|step| Stray {
+            step,
+            expected: expected_of(step, differences),
+        });
         Chart {
             title: played.title.as_deref().unwrap_or("A scenario"),
             profile: match read_profile(&played.profile) {
                 Some(profile) => format!("Profile: {}", words::profile(&profile)),
                 None => format!("Profile: {}.", words::refusal(Refusal::ProfileMalformed)),
             },
-            ladders: drawn.map(|call| Ladder::of(*call, steps)).collect(),
-            calls_left_out: calls.len().saturating_sub(CALLS),
-            strays: steps.iter().filter(|step| step.call.is_none()).collect(),
+            ladders: calls
+                .iter()
+                .map(|call| Ladder::of(*call, steps, differences))
+                .collect(),
+            calls_left_out,
+            strays: strays.collect(),
             end: played.end.as_ref(),
+            undrawn: undrawn(differences, steps, &calls),
         }
     }
+
+    /// Whether a row has a mark.
+    pub fn has_marks(&self) -> bool {
+        let mut rows = self.ladders.iter().flat_map(|ladder| &ladder.rows);
+        rows.any(|row| row.expected.is_some())
+    }
+}
+
+/// The answer that is expected of an item, if it has another one.
+fn expected_of(step: &Step, differences: &[Group]) -> Option<String> {
+    let place = differences.partition_point(|group| group.numbers.end <= step.number);
+    let group = differences.get(place)?;
+    let is_here = group.numbers.contains(&step.number);
+    is_here.then(|| group.expected().to_string())
+}
+
+/// What is said of the profile, of items behind the end and of calls left out.
+fn undrawn(differences: &[Group], steps: &[Step], calls: &[u32]) -> Vec<String> {
+    let has_place = |step: &&Step| step.call.is_none_or(|call| calls.contains(&call));
+    let drawn = steps.iter().filter(has_place).map(|step| step.number);
+    let drawn: BTreeSet<usize> = drawn.collect();
+    let undrawn = |group: &&Group| !group.numbers.clone().all(|number| drawn.contains(&number));
+    let message = |group: &Group| format!("Line {}: {}.", group.line.number, group.difference());
+    differences.iter().filter(undrawn).map(message).collect()
 }
 
 impl Ladder {
     /// The call's own items; those of others are left out.
-    fn of(call: u32, steps: &[Step]) -> Ladder {
+    fn of(call: u32, steps: &[Step], differences: &[Group]) -> Ladder {
         let steps: Vec<&Step> = steps
             .iter()
             .filter(|step| step.call == Some(call))
@@ -209,7 +257,7 @@ impl Ladder {
         };
         Ladder {
             call,
-            rows: rows(&steps),
+            rows: rows(&steps, differences),
             open: runs(steps.iter().map(|step| step.record.map(|_| ()))),
             holds: runs(steps.iter().map(|step| step.record?.hold)),
             relationships: runs(steps.iter().map(relationship)),
@@ -224,7 +272,7 @@ fn relationship_after(step: &Step) -> Relationship {
     record.map_or(Relationship::None, Record::relationship)
 }
 
-fn rows(steps: &[&Step]) -> Vec<Row> {
+fn rows(steps: &[&Step], differences: &[Group]) -> Vec<Row> {
     let mut last_time = None;
     let mut last_relationship = Relationship::None;
     let mut rows = Vec::new();
@@ -240,6 +288,7 @@ fn rows(steps: &[&Step]) -> Vec<Row> {
             comment: step.comment.clone(),
             arrows: arrows(step, time),
             refusal: step.answer.err(),
+            expected: expected_of(step, differences),
             relationship: changed.then_some(relationship),
             over: step.answer.is_ok_and(|answer| answer.over),
         });

@@ -4,7 +4,7 @@
 //! take.
 
 use super::ladder::{Arrow, Chart, Party, Row};
-use super::svg::{COMMENT, DETAIL, NAME, REFUSED, SMALL, SPACE, TIME};
+use super::svg::{Font, COMMENT, DETAIL, DIFFERS, NAME, REFUSED, SMALL, SPACE, TIME};
 use super::words::{self, Label};
 use crate::paper::forms::Leg;
 
@@ -98,11 +98,13 @@ fn outer(chart: &Chart, leg: Leg) -> i32 {
 /// A line of a label: its name, and what says more, of which one may be empty.
 pub type LabelLine = (String, String);
 
+/// A box with text across the lifelines: its top and its lines.
+pub type TextBox = (i32, Vec<String>);
+
 /// The heights of a row's parts.
 pub struct Placed {
     pub pause: Option<i32>,
-    /// The comment's box: its top and its lines.
-    pub comment: Option<(i32, Vec<String>)>,
+    pub comment: Option<TextBox>,
     /// The top of what belongs to the item.
     pub top: i32,
     pub arrows: Vec<(i32, Vec<LabelLine>)>,
@@ -110,6 +112,8 @@ pub struct Placed {
     pub refusal: (i32, Vec<String>),
     /// Where the badges stand: the relationship, and that the call is over.
     pub badges: i32,
+    /// What the text expects instead.
+    pub expected: Option<TextBox>,
     pub bottom: i32,
 }
 
@@ -142,12 +146,8 @@ fn place_row(columns: &Columns, row: &Row, top: i32) -> Placed {
         y += PAUSE_HEIGHT;
         y - PAUSE_HEIGHT / 2
     });
-    let comment = row.comment.as_ref().map(|comment| {
-        let lines = COMMENT.wrap(comment, comment_width(columns) - 24);
-        let box_top = y + PAD;
-        y = box_top + comment_height(&lines) + PAD;
-        (box_top, lines)
-    });
+    let comment = row.comment.as_ref();
+    let comment = comment.map(|text| place_box(columns, &COMMENT, text, &mut y));
     let row_top = y;
     let mut arrows = Vec::new();
     for arrow in &row.arrows {
@@ -163,6 +163,11 @@ fn place_row(columns: &Columns, row: &Row, top: i32) -> Placed {
         y += PAD + 2 + BADGE_HEIGHT;
     }
     let badges = y - BADGE_HEIGHT / 2;
+    let expected = row.expected.as_deref().map(words::expected);
+    let expected = expected.map(|text| {
+        y += PAD;
+        place_box(columns, &DIFFERS, &text, &mut y)
+    });
     // At the item stand two lines of time, and as many of a charge.
     let bottom = (y + PAD + 4).max(arrows[0].0 + 2 * LINE - 4);
     Placed {
@@ -172,8 +177,17 @@ fn place_row(columns: &Columns, row: &Row, top: i32) -> Placed {
         arrows,
         refusal: (refusal_top, refusal),
         badges,
+        expected,
         bottom,
     }
+}
+
+/// A box from `y` on, which then is where the box ends.
+fn place_box(columns: &Columns, font: &Font, text: &str, y: &mut i32) -> TextBox {
+    let lines = font.wrap(text, box_width(columns) - 24);
+    let top = *y + PAD;
+    *y = top + box_height(&lines) + PAD;
+    (top, lines)
 }
 
 /// A refusal stands between the switch and its neighbour on the item's side.
@@ -187,12 +201,12 @@ fn refusal_lines(row: &Row) -> Vec<String> {
     REFUSED.wrap(&text, gap - LABEL_MARGIN - PAD)
 }
 
-fn comment_width(columns: &Columns) -> i32 {
+fn box_width(columns: &Columns) -> i32 {
     let [caller, .., called] = columns.parties;
     called - caller - 28
 }
 
-pub fn comment_height(lines: &[String]) -> i32 {
+pub fn box_height(lines: &[String]) -> i32 {
     12 + LINE * lines.len() as i32
 }
 

@@ -3,10 +3,11 @@
 use super::ladder::Form;
 use super::layout::{Columns, MARGIN, STRIP_WIDTH};
 use super::signs::{draw_break, draw_hold, draw_point, draw_shaft, draw_strip};
-use super::svg::{Anchor, Spot, Svg, SMALL};
+use super::svg::{Anchor, Spot, Svg, DIFFERS_BOX, SMALL};
 
-/// Two columns of signs, and how to read the figures; says where it ends.
-pub fn draw_legend(svg: &mut Svg, columns: &Columns, top: i32) -> i32 {
+/// Two columns of signs, and how to read the figures; says where it ends. The
+/// mark of a difference is among them only if the ladders have one.
+pub fn draw_legend(svg: &mut Svg, columns: &Columns, has_marks: bool, top: i32) -> i32 {
     const STEP: i32 = 28;
     const HALF: i32 = 11;
     type Sample = fn(&mut Svg, Spot);
@@ -52,15 +53,26 @@ pub fn draw_legend(svg: &mut Svg, columns: &Columns, top: i32) -> i32 {
             "no relationship; no leg; no open call",
         ),
     ];
+    const DIFFERENCE: (Sample, &str) = (
+        |svg, (x, y)| svg.rect(DIFFERS_BOX, (x - 20, y - 8), (40, 16), 4),
+        "the text expects another answer than the one that is given and drawn",
+    );
     svg.line("rule", (MARGIN, top), (columns.width - MARGIN, top));
     let half = SAMPLES.len() / 2;
-    for (place, (sample, text)) in SAMPLES.into_iter().enumerate() {
-        let x = MARGIN + (place / half) as i32 * (columns.width * 11 / 20);
-        let y = top + 24 + (place % half) as i32 * STEP;
+    let mut draw_sample = |column: usize, row: usize, (sample, text): (Sample, &str)| {
+        let x = MARGIN + column as i32 * (columns.width * 11 / 20);
+        let y = top + 24 + row as i32 * STEP;
         sample(svg, (x + 28, y));
         svg.text(&SMALL, Anchor::Start, (x + 68, y + 4), text);
+    };
+    for (place, sample) in SAMPLES.into_iter().enumerate() {
+        draw_sample(place / half, place % half, sample);
     }
-    let y = top + 24 + half as i32 * STEP + 4;
+    if has_marks {
+        draw_sample(0, half, DIFFERENCE);
+    }
+    let rows = half + usize::from(has_marks);
+    let y = top + 24 + rows as i32 * STEP + 4;
     let figures = "9/2 is detection point 9 of leg 2. Times and periods count tenths of a second.";
     svg.text(&SMALL, Anchor::Start, (MARGIN, y), figures);
     y

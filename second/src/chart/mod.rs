@@ -4,7 +4,7 @@
 //! after each item a chart is made, which says what is drawn; and the chart is
 //! drawn. Only the record knows when a charge's clock has started, and the
 //! record is this program's: so the other program's answers are held to this
-//! one's first.
+//! one's first. Where the text expects another answer, the item is marked.
 
 // What is drawn.
 mod ladder;
@@ -23,6 +23,7 @@ mod svg;
 #[cfg(test)]
 mod tests;
 
+use crate::compare::list::answered_in;
 use crate::compare::program::Program;
 use crate::compare::shown;
 use crate::output;
@@ -32,20 +33,25 @@ use ladder::Chart;
 use play::Played;
 
 /// Draws the scenario of a file; false if the program's answers differ from this
-/// program's.
+/// program's, or from those that the text expects.
 pub fn run(program: Program, file: &str) -> Result<bool, String> {
-    let scenario = texts::read_file(file)?;
+    let scenario = texts::read_to_list(file)?;
     let input = texts::bytes_of(&scenario.lines);
-    let theirs = program.output_of(file, &input)?;
+    let name = &scenario.name;
+    let theirs = program.output_of(name, &input)?;
     let ours = listing::of(&input);
     let played = Played::of(&scenario);
     if theirs != ours {
-        let difference = difference(&played, program.path, &theirs, &ours);
-        output::complain(format_args!("{file}{difference}"));
+        let difference = difference(&played, &program.name(), &theirs, &ours);
+        output::complain(format_args!("{name}{difference}"));
         return Ok(false);
     }
-    output::write(page::draw(&Chart::of(&played)).as_bytes())?;
-    Ok(true)
+    let differences = texts::differences(&answered_in(&theirs, &scenario)?);
+    output::write(page::draw(&Chart::of(&played, &differences)).as_bytes())?;
+    for difference in &differences {
+        output::complain(difference.message(name));
+    }
+    Ok(differences.is_empty())
 }
 
 /// The first lines of the listings that are not the same, after the line of the

@@ -3,12 +3,11 @@
 
 use super::describe::{description, notes};
 use super::drawing::draw_ladder;
-use super::ladder::Chart;
+use super::ladder::{Chart, Stray};
 use super::layout::{Columns, LINE, MARGIN};
 use super::legend::draw_legend;
-use super::play::Step;
 use super::svg::{Anchor, Font, Svg};
-use super::svg::{BYTES, HEADING, LEAD, PROFILE, REFUSED, TIME, TITLE};
+use super::svg::{BYTES, DIFFERS, HEADING, LEAD, PROFILE, REFUSED, TIME, TITLE};
 use super::words;
 use crate::texts::hex_text;
 
@@ -24,8 +23,11 @@ pub fn draw(chart: &Chart) -> String {
     for note in notes(chart) {
         y = draw_lines(&mut svg, &LEAD, &columns, &note, y + 10);
     }
+    for difference in &chart.undrawn {
+        y = draw_lines(&mut svg, &DIFFERS, &columns, difference, y + 10);
+    }
     if !chart.ladders.is_empty() {
-        y = draw_legend(&mut svg, &columns, y + 22);
+        y = draw_legend(&mut svg, &columns, chart.has_marks(), y + 22);
     }
     let description = description(chart);
     svg.picture(columns.width, y + MARGIN, chart.title, &description)
@@ -50,7 +52,7 @@ fn draw_header(svg: &mut Svg, columns: &Columns, chart: &Chart, top: i32) -> i32
 }
 
 /// Items without a call have no ladder: their bytes, and what they got.
-fn draw_strays(svg: &mut Svg, columns: &Columns, strays: &[&Step], top: i32) -> i32 {
+fn draw_strays(svg: &mut Svg, columns: &Columns, strays: &[Stray], top: i32) -> i32 {
     const MOST_BYTES: usize = 65;
     let mut y = top;
     if strays.is_empty() {
@@ -58,22 +60,27 @@ fn draw_strays(svg: &mut Svg, columns: &Columns, strays: &[&Step], top: i32) -> 
     }
     y += 36;
     svg.text(&HEADING, Anchor::Start, (MARGIN, y), "Items of no call");
-    for stray in strays {
-        let text = match stray.bytes.get(..MOST_BYTES) {
-            Some(start) if start.len() < stray.bytes.len() => format!("{} ..", hex_text(start)),
-            _ => hex_text(&stray.bytes),
+    for Stray { step, expected } in strays {
+        let text = match step.bytes.get(..MOST_BYTES) {
+            Some(start) if start.len() < step.bytes.len() => format!("{} ..", hex_text(start)),
+            _ => hex_text(&step.bytes),
         };
         let left = columns.time + 24;
         let lines = BYTES.wrap(&text, columns.width - MARGIN - left);
         y += 26;
-        let number = stray.number.to_string();
+        let number = step.number.to_string();
         svg.text(&TIME, Anchor::Start, (MARGIN, y), &number);
         for line in lines {
             svg.text(&BYTES, Anchor::Start, (left, y), &line);
             y += LINE;
         }
-        if let Err(refusal) = stray.answer {
+        if let Err(refusal) = step.answer {
             svg.text(&REFUSED, Anchor::Start, (left, y), &words::refusal(refusal));
+        }
+        let expected = expected.as_deref().map(words::expected).unwrap_or_default();
+        for line in DIFFERS.wrap(&expected, columns.width - MARGIN - left) {
+            y += LINE;
+            svg.text(&DIFFERS, Anchor::Start, (left, y), &line);
         }
     }
     y

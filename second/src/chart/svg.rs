@@ -18,6 +18,7 @@ pub struct Font {
 const INK: &str = "#1b2430";
 const PALE: &str = "#5b6675";
 const RED: &str = "#b3261e";
+const VIOLET: &str = "#7a1fa2";
 
 const fn font(class: &'static str, size: i32, weight: &'static str, colour: &'static str) -> Font {
     Font {
@@ -54,7 +55,10 @@ pub const BYTES: Font = Font {
     ..font("bytes", 12, "normal", INK)
 };
 
-pub const FONTS: [&Font; 19] = [
+/// An answer that the text expects and that is not given.
+pub const DIFFERS: Font = font("differs", 13, "bold", VIOLET);
+
+pub const FONTS: [&Font; 20] = [
     &TITLE,
     &LEAD,
     &PROFILE,
@@ -74,6 +78,7 @@ pub const FONTS: [&Font; 19] = [
     &BADGE,
     &OVER,
     &BYTES,
+    &DIFFERS,
 ];
 
 /// The classes of the shapes. Whatever differs in colour differs in shape too,
@@ -102,6 +107,11 @@ const SHAPES: &str = "\
 .gap{fill:#fff}
 .rule{stroke:#c6ced8}
 .end{stroke-width:1.2;stroke-dasharray:1 3}
+";
+
+pub const DIFFERS_BOX: &str = "differs-box";
+const DIFFERS_SHAPE: &str = "\
+.differs-box{fill:#fbf1ff;stroke:#7a1fa2;stroke-width:3}
 ";
 
 #[derive(Clone, Copy)]
@@ -191,17 +201,31 @@ impl Svg {
     /// see it.
     pub fn picture(&self, width: i32, height: i32, title: &str, description: &str) -> String {
         let (title, description) = (escape(title), escape(description));
-        let fonts: String = FONTS.iter().map(|font| font.rule()).collect();
+        let style = self.style();
         let content = &self.content;
         format!(
             "<svg xmlns=\"http://www.w3.org/2000/svg\" width=\"{width}\" height=\"{height}\" \
              viewBox=\"0 0 {width} {height}\" role=\"img\" aria-labelledby=\"title description\">\n\
              <title id=\"title\">{title}</title>\n\
              <desc id=\"description\">{description}</desc>\n\
-             <style>\n{fonts}{SHAPES}</style>\n\
+             <style>\n{style}</style>\n\
              <rect class=\"page\" width=\"{width}\" height=\"{height}\"/>\n\
              {content}</svg>\n"
         )
+    }
+
+    /// The style sheet; few pictures have differences, so the others go without
+    /// their style.
+    fn style(&self) -> String {
+        let has = |class: &str| self.content.contains(&format!("class=\"{class}\""));
+        let fonts = FONTS.into_iter();
+        let fonts = fonts.filter(|font| font.class != DIFFERS.class || has(font.class));
+        let mut style: String = fonts.map(Font::rule).collect();
+        style += SHAPES;
+        if has(DIFFERS_BOX) {
+            style += DIFFERS_SHAPE;
+        }
+        style
     }
 }
 

@@ -6,6 +6,7 @@ use super::page;
 use super::play::{Cause, Played};
 use super::svg::{Font, FONTS, SPACE};
 use crate::compare::generate;
+use crate::compare::list::answered_in;
 use crate::paper::forms::{Leg, Tenths};
 use crate::paper::listing;
 use crate::paper::record::{Point, Relationship};
@@ -41,10 +42,19 @@ fn played(text: &str) -> Played {
     Played::of(&scenario(text))
 }
 
+/// The picture of a scenario, with what differs from its expectations.
+fn picture(text: &str) -> String {
+    let scenario = scenario(text);
+    let listed = listing::of(&texts::bytes_of(&scenario.lines));
+    let answered = answered_in(&listed, &scenario).expect("it is a listing");
+    let differences = texts::differences(&answered);
+    page::draw(&Chart::of(&Played::of(&scenario), &differences))
+}
+
 /// The only ladder of a scenario.
 fn ladder(text: &str) -> Ladder {
     let played = played(text);
-    let mut ladders = Chart::of(&played).ladders;
+    let mut ladders = Chart::of(&played, &[]).ladders;
     assert_eq!(ladders.len(), 1);
     ladders.remove(0)
 }
@@ -232,7 +242,7 @@ fn ladders_of_two_calls() {
         1 call 2 apply-charging leg 2 period 900
         2 call 9 answer",
     );
-    let ladders = Chart::of(&played).ladders;
+    let ladders = Chart::of(&played, &[]).ladders;
     let numbers = |ladder: &Ladder| ladder.rows.iter().map(|row| row.number).collect::<Vec<_>>();
     assert_eq!(ladders[0].call, 9);
     assert_eq!(numbers(&ladders[0]), [1, 3, 5]);
@@ -244,7 +254,7 @@ fn ladders_of_two_calls() {
 #[test]
 fn more_calls_than_are_drawn() {
     let played = played("profile continue 60\n0 call 1..20 setup 4/49151 service 17");
-    let chart = Chart::of(&played);
+    let chart = Chart::of(&played, &[]);
     assert_eq!(chart.ladders.len(), CALLS);
     assert_eq!(chart.calls_left_out, 20 - CALLS);
     assert!(page::draw(&chart).contains("4 further calls are not drawn."));
@@ -261,7 +271,7 @@ fn malformed_items() {
         bytes 00 0D
         0 call 1 continue",
     );
-    let chart = Chart::of(&played);
+    let chart = Chart::of(&played, &[]);
     assert_eq!(
         arrows(&chart.ladders[0].rows[0]),
         [(
@@ -271,7 +281,7 @@ fn malformed_items() {
             "clear leg 3 cause 16".to_string()
         )]
     );
-    let strays: Vec<usize> = chart.strays.iter().map(|step| step.number).collect();
+    let strays: Vec<usize> = chart.strays.iter().map(|stray| stray.step.number).collect();
     assert_eq!(strays, [2, 3]);
     let end = chart.end.expect("the listing ends");
     assert_eq!((end.cause, end.unread), (Cause::Length(3), 1));
@@ -280,18 +290,42 @@ fn malformed_items() {
 #[test]
 fn refused_profile() {
     let played = played("profile continue 9 -> refused 2\n0 call 1 setup 4/1 service 1");
-    let chart = Chart::of(&played);
+    let chart = Chart::of(&played, &[]);
     assert!(chart.ladders.is_empty());
     assert_eq!(chart.profile, "Profile: refused 2: profile malformed.");
     let end = chart.end.expect("the listing ends");
     assert_eq!((end.cause, end.unread), (Cause::Profile, 1));
 }
 
+/// What differs is marked once: at its item, or below where it has no place.
+#[test]
+fn marks_of_differences() {
+    let picture = picture(
+        "profile continue 120 -> refused 2
+        0 call 1 setup 4/49151 service 17 -> ok control 2 r2/1
+        0 call 1 continue -> ok none - d1
+        bytes 00 0D -> refused 4
+        0 call 1 answer -> refused 5",
+    );
+    let marks = picture.lines().filter(|line| line.contains("\"differs\""));
+    let marks: Vec<&str> = marks
+        .filter_map(|line| line.split(['<', '>']).nth(4))
+        .collect();
+    let expected = [
+        "expected ok none - d1",
+        "expected refused 4",
+        "Line 1: expected refused 2, answered nothing: the profile is accepted.",
+        "Line 5: expected refused 5, answered nothing: the listing has ended in line 4.",
+    ];
+    assert_eq!(marks, expected);
+    assert!(picture.contains(">the text expects another answer than"));
+}
+
 /// No text of a scenario can break the picture.
 #[test]
 fn text_is_escaped() {
     let text = "-- <b> & \"q\" \u{1}\u{ffff}\nprofile continue 60";
-    let picture = page::draw(&Chart::of(&played(text)));
+    let picture = picture(text);
     assert!(picture.contains("<title id=\"title\">&lt;b&gt; &amp; &quot;q&quot; \u{fffd}\u{fffd}"));
 }
 
@@ -317,8 +351,19 @@ fn texts_to_draw() -> Vec<String> {
         "4".repeat(15),
         "a long comment ".repeat(30),
     );
+    let expecting = "profile release 120 -> refused 2
+        0 call 1 setup 4/49151 service 17 -> refused 14
+        0 call 1 apply-charging leg 2 period 600 -> ok none -
+        -- A comment below what differs.
+        1 call 1 moved -> ok control 2 r2/1 c1=863999 c2=863999 d281474976710655 over
+        2 call 1 release -> refused 1
+        2 call 3..20 continue -> refused 5
+        bytes 00 0E 02 15 00 00 00 01 00 00 00 00 00 00 -> refused 2
+        bytes 00 0D -> ok control 2 r2/1 c1=863999 c2=863999 d281474976710655 over
+        0 call 1 continue -> refused 4";
     let random = (0..200).map(|seed| texts::explain(&generate::scenario(seed)));
-    [longest].into_iter().chain(random).collect()
+    let written = [longest, expecting.to_string()];
+    written.into_iter().chain(random).collect()
 }
 
 /// What is played is what this program lists.
@@ -391,7 +436,7 @@ fn overlap(a: &Room, b: &Room) -> bool {
 #[test]
 fn texts_keep_off_each_other() {
     for scenario in texts_to_draw() {
-        let picture = page::draw(&Chart::of(&played(&scenario)));
+        let picture = picture(&scenario);
         let head = picture.lines().next().unwrap_or_default();
         let size =
             ["width", "height"].map(|name| attribute(head, name).and_then(|n| n.parse().ok()));

@@ -204,6 +204,11 @@ pub fn relationship(relationship: Relationship) -> &'static str {
     }
 }
 
+/// Beside an answer that the text does not expect.
+pub fn expected(answer: &str) -> String {
+    format!("expected {answer}")
+}
+
 pub fn refusal(refusal: Refusal) -> String {
     let reason = match refusal {
         Refusal::ItemMalformed => "malformed",

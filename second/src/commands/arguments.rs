@@ -1,6 +1,8 @@
 //! What stands behind a command on the command line: what the command takes,
 //! what was given, and what is said if that is not the same.
 
+use crate::output::visible;
+
 /// One word, or several of a sort.
 pub struct Argument {
     /// What stands for it in the usage.
@@ -64,7 +66,7 @@ pub fn read<'a>(takes: &[Takes], words: &[&'a str]) -> Result<Given<'a>, String>
             given.push(read_choice(takes, word, &mut words)?);
         } else {
             let argument = argument(takes, count);
-            let argument = argument.ok_or(format!("`{word}` is one argument too many"))?;
+            let argument = argument.ok_or_else(|| too_many(word))?;
             given.push((argument.name, argument.check(word)?));
             count += 1;
         }
@@ -96,6 +98,10 @@ fn argument(takes: &[Takes], count: usize) -> Option<&Argument> {
     }
 }
 
+pub fn too_many(word: &str) -> String {
+    format!("`{}` is one argument too many", visible(word))
+}
+
 fn missing(argument: &Argument) -> String {
     format!("{} is missing", argument.name)
 }
@@ -107,7 +113,10 @@ fn read_choice<'a>(
     words: &mut impl Iterator<Item = &'a str>,
 ) -> Result<(&'static str, &'a str), String> {
     let choice = choices(takes).find(|choice| choice.name == name);
-    let choice = choice.ok_or_else(|| format!("option `{name}`: {}", expected_choices(takes)))?;
+    let choice = choice.ok_or_else(|| {
+        let expected = expected_choices(takes);
+        format!("option `{}`: {expected}", visible(name))
+    })?;
     let Some(argument) = &choice.value else {
         return Ok((choice.name, name));
     };
@@ -140,7 +149,10 @@ impl Argument {
         };
         match is_right {
             true => Ok(word),
-            false => Err(format!("{} `{word}`: expected {expected}", self.name)),
+            false => {
+                let (name, word) = (self.name, visible(word));
+                Err(format!("{name} `{word}`: expected {expected}"))
+            }
         }
     }
 }

@@ -89,7 +89,7 @@ const GROUPS: [(&str, &[Command]); 7] = [
         }],
     ),
     (
-        "Scenarios as text: a profile and items in words (src/texts/mod.rs shows one)",
+        "Scenarios as text: a profile and items in words (docs/SCENARIOS.md has the form)",
         &[
             Command {
                 name: "assemble",
@@ -128,7 +128,8 @@ const GROUPS: [(&str, &[Command]); 7] = [
                 takes: &[One(PROGRAM), One(FILE), Choice(LIMIT)],
                 streams: "> SVG",
                 does: "draws a scenario as a ladder diagram, with the answers that the \
-                    listing program PROGRAM gives; this program has to give the same",
+                    listing program PROGRAM gives; this program has to give the same; where \
+                    the text expects others, the item is marked",
                 run: |given| chart::run(program(given), given.word(FILE.name).unwrap_or_default()),
             },
         ],
@@ -272,7 +273,11 @@ pub fn run(words: &[&str]) -> Result<bool, String> {
     };
     match (*name, words) {
         ("help" | "--help" | "-h", []) => write(usage::whole().as_bytes()),
-        ("help" | "--help" | "-h", [name, ..]) => help(find(name)?),
+        ("help" | "--help" | "-h", [name]) => help(find(name)?),
+        ("help" | "--help" | "-h", [_, word, ..]) => {
+            let error = arguments::too_many(word);
+            Err(format!("{name}: {error} (see second --help)"))
+        }
         (name, ["help"]) => help(find(name)?),
         (name, words) if words.iter().any(|word| ["--help", "-h"].contains(word)) => {
             help(find(name)?)
@@ -291,6 +296,7 @@ fn find(name: &str) -> Result<&'static Command, String> {
     all().find(|command| command.name == name).ok_or_else(|| {
         let closest = arguments::closest(name, names());
         let closest = closest.map_or(String::new(), |name| format!(", but `{name}`"));
+        let name = output::visible(name);
         format!("there is no command `{name}`{closest} (see second --help)")
     })
 }

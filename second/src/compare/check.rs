@@ -5,20 +5,20 @@ use crate::compare::program::Program;
 use crate::compare::shown;
 use crate::output;
 use crate::paper::listing;
-use crate::texts::{self, Line};
+use crate::texts::{self, Line, Scenario};
 
 /// Checks all the files; true if every program says what the texts say.
 pub fn run(program: Program, files: &[&str]) -> Result<bool, String> {
     let mut items = 0;
     let mut differences = 0;
     for file in files {
-        let lines = texts::assemble_file(file)?;
+        let Scenario { name, lines, .. } = texts::read_file(file)?;
         let input = texts::bytes_of(&lines);
-        let theirs = program.output_of(file, &input)?;
+        let theirs = program.output_of(&name, &input)?;
         let ours = listing::of(&input);
         items += lines.len().saturating_sub(1);
-        if let Some(difference) = first_difference(&lines, program.path, &theirs, &ours) {
-            output::line(format_args!("{file}: {difference}"))?;
+        if let Some(difference) = first_difference(&lines, &program.name(), &theirs, &ours) {
+            output::line(format_args!("{name}: {difference}"))?;
             differences += 1;
         }
     }

@@ -2,10 +2,12 @@
 //! itself is not asked.
 
 use super::program::Program;
+use super::shown;
 use crate::output;
 use crate::texts::{
-    self, heading, is_answer, listed, quoted, Line, Listed, Scenario, PROFILE_REFUSED,
+    self, heading, is_answer, listed, Answered, Line, Listed, Scenario, PROFILE_REFUSED,
 };
+use std::str;
 
 /// The first line of every listing.
 const HEADER: &str = "item answer";
@@ -38,7 +40,7 @@ pub fn run(program: Program, files: &[&str]) -> Result<bool, String> {
 fn read_all(files: &[&str]) -> Result<Vec<Scenario>, String> {
     let (mut scenarios, mut errors) = (Vec::new(), Vec::new());
     for file in files {
-        match read(file) {
+        match texts::read_to_list(file) {
             Ok(scenario) => scenarios.push(scenario),
             Err(error) => errors.push(error),
         }
@@ -49,44 +51,39 @@ fn read_all(files: &[&str]) -> Result<Vec<Scenario>, String> {
     }
 }
 
-/// A scenario with something to be listed: an item, or a profile that is to be
-/// refused.
-fn read(file: &str) -> Result<Scenario, String> {
-    let scenario = texts::read_file(file)?;
-    match &scenario.lines[..] {
-        [profile] if profile.expected.is_none() => Err(format!(
-            "{file}: items missing: expected at least one behind the profile"
-        )),
-        _ => Ok(scenario),
-    }
-}
-
 fn list(program: Program, scenario: &Scenario) -> Result<Listed, String> {
     let output = program.output_of(&scenario.name, &texts::bytes_of(&scenario.lines))?;
-    let output = String::from_utf8_lossy(&output);
     let listed = list_output(scenario, &output);
     listed.map_err(|error| program.message(&scenario.name, error))
 }
 
 /// The scenario with the answers that are in a program's output.
-pub fn list_output(scenario: &Scenario, output: &str) -> Result<Listed, String> {
-    let answers = read_answers(output, &scenario.lines)?;
-    let answered: Vec<_> = scenario.lines.iter().zip(answers).collect();
+pub fn list_output(scenario: &Scenario, output: &[u8]) -> Result<Listed, String> {
+    let answered = answered_in(output, scenario)?;
     Ok(listed(&scenario.name, &scenario.text, &answered))
+}
+
+/// The profile and the items, each with its answer in a program's output.
+pub fn answered_in<'a>(
+    output: &'a [u8],
+    scenario: &'a Scenario,
+) -> Result<Vec<Answered<'a>>, String> {
+    let answers = read_answers(output, &scenario.lines)?;
+    Ok(scenario.lines.iter().zip(answers).collect())
 }
 
 /// The answers in a program's output: to the profile, if it is refused, and to
 /// each item up to the one that ends the listing.
-fn read_answers<'a>(output: &'a str, lines: &[Line]) -> Result<Vec<Option<&'a str>>, String> {
-    let mut output_lines = output.split_inclusive('\n').map(whole_line);
+fn read_answers<'a>(output: &'a [u8], lines: &[Line]) -> Result<Vec<Option<&'a str>>, String> {
+    let mut output_lines = shown::lines(output).map(whole_line);
     let mut next = || output_lines.next().transpose();
     let header = next()?;
-    if header != Some(HEADER) {
+    if header != Some(HEADER.as_bytes()) {
         return Err(unexpected(&format!("the header `{HEADER}`"), header));
     }
     let mut answers = vec![None; lines.len()];
     let mut line = next()?;
-    if line == Some(&format!("0 {PROFILE_REFUSED}")) {
+    if line == Some(format!("0 {PROFILE_REFUSED}").as_bytes()) {
         answers[0] = Some(PROFILE_REFUSED);
         line = next()?;
     } else {
@@ -102,13 +99,14 @@ fn read_answers<'a>(output: &'a str, lines: &[Line]) -> Result<Vec<Option<&'a st
 }
 
 /// A line without its end; the last one could be cut short.
-fn whole_line(line: &str) -> Result<&str, String> {
-    line.strip_suffix('\n')
+fn whole_line(line: &[u8]) -> Result<&[u8], String> {
+    line.strip_suffix(b"\n")
         .ok_or_else(|| unexpected("a whole last line", Some(line)))
 }
 
-fn read_answer(line: Option<&str>, number: usize, at: usize) -> Result<&str, String> {
-    match line.and_then(|line| line.split_once(' ')) {
+fn read_answer(line: Option<&[u8]>, number: usize, at: usize) -> Result<&str, String> {
+    let text = line.and_then(|line| str::from_utf8(line).ok());
+    match text.and_then(|text| text.split_once(' ')) {
         Some((word, answer)) if word == number.to_string() && is_answer(answer) => Ok(answer),
         _ => Err(unexpected(
             &format!("the answer to item {number} (line {at})"),
@@ -118,9 +116,9 @@ fn read_answer(line: Option<&str>, number: usize, at: usize) -> Result<&str, Str
 }
 
 /// The message about a line of the output, or about its end.
-fn unexpected(expected: &str, line: Option<&str>) -> String {
+fn unexpected(expected: &str, line: Option<&[u8]>) -> String {
     match line {
-        Some(line) => format!("expected {expected}, not `{}`", quoted(line)),
+        Some(line) => format!("expected {expected}, not `{}`", shown::text(line)),
         None => format!("expected {expected}, not the end of the output"),
     }
 }

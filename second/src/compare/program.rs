@@ -6,6 +6,7 @@
 //! to keep watch, and nothing that the program has started can hold this one up
 //! by keeping the program's input or output open.
 
+use crate::output;
 use std::fmt::Display;
 use std::io::{self, BufRead, BufReader, BufWriter, ErrorKind, Read, Write};
 use std::os::fd::OwnedFd;
@@ -155,12 +156,17 @@ impl Program<'_> {
     }
 
     fn cannot_be_run(&self, error: io::Error) -> String {
-        format!("{}: cannot be run: {error}", self.path)
+        format!("{}: cannot be run: {error}", self.name())
     }
 
     /// What is said of the program when it was run on this.
     pub fn message(&self, on: impl Display, fault: String) -> String {
-        format!("{}: {on}: {fault}", self.path)
+        format!("{}: {on}: {fault}", self.name())
+    }
+
+    /// As messages have it.
+    pub fn name(&self) -> String {
+        output::visible(self.path)
     }
 }
 

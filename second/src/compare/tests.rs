@@ -18,7 +18,7 @@ fn scenario(text: &str) -> Scenario {
 fn list(text: &str) -> Listed {
     let scenario = scenario(text);
     let output = listing::of(&bytes_of(&scenario.lines));
-    list_output(&scenario, &String::from_utf8(output).unwrap()).unwrap()
+    list_output(&scenario, &output).unwrap()
 }
 
 fn check(text: &str, expected: &str, differences: &[&str]) {
@@ -204,7 +204,7 @@ fn outputs_that_are_no_listing() {
         ),
     ] {
         assert_eq!(
-            list_output(&scenario, output).err().as_deref(),
+            list_output(&scenario, output.as_bytes()).err().as_deref(),
             Some(message)
         );
     }

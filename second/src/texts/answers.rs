@@ -1,9 +1,10 @@
-//! The answers that a listing can have: what may stand behind `->`.
+//! The form of a listing's answers: what may stand behind `->`. Whether an
+//! answer of this form can be given at all is not asked here: an expectation may
+//! be wrong.
 //!
 //! Document 01, sections "Numbered refusals" and "The listing program".
 
-use crate::paper::forms::{LONGEST_TIMER, PERIODS, TIME_END};
-use crate::paper::record::{Mode, Point};
+use std::str::FromStr;
 
 /// The only answer that a profile can get.
 pub const PROFILE_REFUSED: &str = "refused 2";
@@ -11,7 +12,7 @@ pub const PROFILE_REFUSED: &str = "refused 2";
 pub const FORM: &str = "refused 1 to 14, or ok none|monitor|control POINT|- \
     [rPOINT/LEG|nPOINT/LEG] [c1=TENTHS] [c2=TENTHS] [dTENTHS] [over]";
 
-/// Whether a listing can have this answer to an item.
+/// Whether the text has the form of an answer to an item.
 pub fn is_answer(text: &str) -> bool {
     let words: Vec<&str> = text.split(' ').collect();
     match words[..] {
@@ -23,26 +24,17 @@ pub fn is_answer(text: &str) -> bool {
     }
 }
 
-/// No point, or one where a call can be held.
 fn is_hold(word: &str) -> bool {
-    let holds_at = |point: Point| word == point.number().to_string();
-    word == "-" || can_interrupt().any(holds_at)
-}
-
-/// The points that can be met with an interrupting report: Moved is never
-/// armed so.
-fn can_interrupt() -> impl Iterator<Item = Point> {
-    let points = [Point::CollectedInfo].into_iter().chain(Point::ARMABLE);
-    points.filter(|point| *point != Point::Moved)
+    word == "-" || is_number::<u8>(word)
 }
 
 /// The parts behind the point, each of which may be left out, in their order.
 fn are_further(words: &[&str]) -> bool {
     let parts: [fn(&str) -> bool; 5] = [
         is_report,
-        |word| is_tenths(word, "c1=", PERIODS.end().0),
-        |word| is_tenths(word, "c2=", PERIODS.end().0),
-        |word| is_tenths(word, "d", TIME_END.0 - 1 + LONGEST_TIMER.tenths().0),
+        |word| is_tenths(word, "c1="),
+        |word| is_tenths(word, "c2="),
+        |word| is_tenths(word, "d"),
         |word| word == "over",
     ];
     let mut words = words.iter().peekable();
@@ -53,20 +45,17 @@ fn are_further(words: &[&str]) -> bool {
 }
 
 fn is_report(word: &str) -> bool {
-    let is = |mode: Mode, point: Point| {
-        let mark = char::from(mode.mark());
-        word == format!("{mark}{}/{}", point.number(), point.leg().number())
-    };
-    can_interrupt().any(|point| is(Mode::Interrupted, point))
-        || Point::ARMABLE
-            .into_iter()
-            .any(|point| is(Mode::Notify, point))
+    let point_and_leg = word.strip_prefix(['r', 'n']);
+    let point_and_leg = point_and_leg.and_then(|word| word.split_once('/'));
+    point_and_leg.is_some_and(|(point, leg)| is_number::<u8>(point) && ["1", "2"].contains(&leg))
+}
+
+fn is_tenths(word: &str, name: &str) -> bool {
+    word.strip_prefix(name).is_some_and(is_number::<u64>)
 }
 
 /// A number as the listing writes it, without a zero before it.
-fn is_tenths(word: &str, name: &str, largest: u64) -> bool {
-    let number = word.strip_prefix(name).unwrap_or_default();
-    number
-        .parse()
-        .is_ok_and(|tenths: u64| tenths <= largest && tenths.to_string() == number)
+fn is_number<T: FromStr + ToString>(word: &str) -> bool {
+    let number: Option<T> = word.parse().ok();
+    number.is_some_and(|number| number.to_string() == word)
 }

@@ -2,8 +2,9 @@
 //! back, and the messages for words that are no item.
 
 use super::values::{
-    assemble_digit, assemble_number, count, digit_character, expected, missing, number_text, Field,
-    CAUSE, ENTRY_LEG, ENTRY_MODE, ENTRY_POINT, ENTRY_TIMER, LEG, PERIOD, SERVICE,
+    assemble_digit, assemble_number, count, digit_character, expected, in_small_letters, missing,
+    number_text, Field, CAUSE, ENTRY_LEG, ENTRY_MODE, ENTRY_POINT, ENTRY_TIMER, LEG, PERIOD,
+    SERVICE,
 };
 use crate::paper::forms::{kind, Operation, Reader};
 
@@ -45,8 +46,6 @@ const FIELDS: [(&str, Field); 5] = [
 
 /// The monitor modes, from 0 on.
 const MODES: [&str; 3] = ["interrupted", "notify", "transparent"];
-
-pub const SMALL_LETTERS: &str = "words are written in small letters";
 
 /// The kind and the body of an item that is written without time and call.
 pub fn assemble_body(text: &str) -> Result<(u8, Vec<u8>), String> {
@@ -255,7 +254,7 @@ fn assemble_pair(word: &str) -> Result<Vec<u8>, String> {
 fn assemble_mode(word: &str) -> Result<Vec<u8>, String> {
     let mode = match MODES.iter().position(|mode| *mode == word) {
         Some(place) => place as u64,
-        None => ENTRY_MODE.number_or(word, &format!("{}, or ", MODES.join(", ")))?,
+        None => ENTRY_MODE.number_or(word, &MODES.join(", "))?,
     };
     Ok(ENTRY_MODE.bytes_of(mode))
 }
@@ -263,10 +262,9 @@ fn assemble_mode(word: &str) -> Result<Vec<u8>, String> {
 /// The message where a kind has other words behind it than its form.
 fn misshapen(what: &str, form: &str, words: &[&str]) -> String {
     let text = words.join(" ");
-    match text.bytes().any(|byte| byte.is_ascii_uppercase()) {
-        true => expected(what, &text, &format!("{form} ({SMALL_LETTERS})")),
-        false if text.is_empty() => missing(what, form),
-        false => expected(what, &text, form),
+    match text.is_empty() {
+        true => missing(what, form),
+        false => expected(what, &text, &in_small_letters(&text, form)),
     }
 }
 
@@ -274,7 +272,7 @@ fn unknown_kind(word: &str) -> String {
     let names = || FORMS.iter().map(|(_, form)| name_in(form));
     let small = word.to_lowercase();
     if let Some(name) = names().find(|name| *name == small) {
-        return expected("item", word, &format!("{name} ({SMALL_LETTERS})"));
+        return expected("item", word, &in_small_letters(word, name));
     }
     let nearest = names().min_by_key(|name| distance(name, &small));
     match nearest.filter(|name| distance(name, &small) <= NEAR) {

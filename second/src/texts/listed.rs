@@ -6,12 +6,12 @@
 //! Marks of an earlier listing are left out, so that the listing of a listing is
 //! the same text.
 
-use super::scenario::{at, Line, Written};
+use super::expected::{groups, Answered, Group, ENDED};
+use super::scenario::Written;
 use std::collections::BTreeMap;
 
 const DIFFERS: &str = "-- DIFFERS, expected: ";
 const NO_ANSWER: &str = "-- no answer: ";
-const ENDED: &str = "the listing has ended";
 
 /// Where a text has no `->` yet, they stand behind its longest line, but no
 /// further to the right than this.
@@ -26,32 +26,26 @@ pub struct Listed {
     pub differences: Vec<String>,
 }
 
-/// The profile or an item, with its answer. Without one, the profile is
-/// accepted, or the listing has ended before the item.
-type Answered<'a> = (&'a Line, Option<&'a str>);
-
 /// Puts the answers into the text.
 pub fn listed(name: &str, text: &str, answered: &[Answered]) -> Listed {
+    let groups = groups(answered);
     let mut listing = Listing {
-        name,
         column: arrow_column(text),
-        ended: last_answered(answered),
         text: String::new(),
-        differences: Vec::new(),
     };
-    let mut rest = answered;
+    let mut rest = &groups[..];
     for (number, line) in numbered_lines(name, text) {
-        let here = |(item, _): &&Answered| item.number == number;
-        let (items, behind) = rest.split_at(rest.iter().take_while(here).count());
-        let is_profile = !items.is_empty() && rest.len() == answered.len();
+        let here = |group: &&Group| group.line.number == number;
+        let (rows, behind) = rest.split_at(rest.iter().take_while(here).count());
         rest = behind;
-        listing.push_line(line, items, is_profile);
+        listing.push_line(line, rows);
     }
-    let (items, differences) = (answered.len() - 1, listing.differences.len());
-    listing.push(&counts_line(items, differences));
+    let differing = groups.iter().filter(|group| group.differs());
+    let differences: Vec<String> = differing.map(|group| group.message(name)).collect();
+    listing.push(&counts_line(answered.len() - 1, differences.len()));
     Listed {
         text: listing.text,
-        differences: listing.differences,
+        differences,
     }
 }
 
@@ -104,60 +98,38 @@ fn width(text: &str) -> usize {
     text.chars().count()
 }
 
-/// The line where the listing ended, if it has ended before the text.
-fn last_answered(answered: &[Answered]) -> usize {
-    let last = answered.iter().rfind(|(_, answer)| answer.is_some());
-    last.map_or(0, |(line, _)| line.number)
-}
-
 /// The listing as it is made, line after line.
-struct Listing<'a> {
-    name: &'a str,
+struct Listing {
     column: usize,
-    ended: usize,
     text: String,
-    differences: Vec<String>,
 }
 
-impl Listing<'_> {
+impl Listing {
     fn push(&mut self, line: &str) {
         self.text += line;
         self.text += "\n";
     }
 
     /// A line with all its items: one row for those with the same answer.
-    fn push_line(&mut self, line: &str, items: &[Answered], is_profile: bool) {
-        if items.is_empty() {
+    fn push_line(&mut self, line: &str, rows: &[Group]) {
+        if rows.is_empty() {
             return self.push(line);
         }
         let mut comment = user_comment(line);
-        for alike in items.chunk_by(|(_, one), (_, other)| one == other) {
-            let is_part = alike.len() < items.len();
-            let (line_of_row, answer) = alike[0];
-            let row = Row {
-                line: line_of_row,
-                is_profile,
-                calls: if is_part { calls_of(alike) } else { None },
-                answer,
-            };
-            if row.differs() {
-                let message = row.difference(self.ended);
-                self.differences
-                    .push(at(self.name, row.line.number, &message));
-            }
-            let content = row.content(Written::new(line).content.trim_end());
-            self.push_row(content, &row, comment.take());
+        for row in rows {
+            let content = content_of(row, Written::new(line).content.trim_end());
+            self.push_row(content, row, comment.take());
         }
     }
 
     /// The parts of a row, each in its column.
-    fn push_row(&mut self, content: String, row: &Row, comment: Option<(usize, &str)>) {
+    fn push_row(&mut self, content: String, row: &Group, comment: Option<(usize, &str)>) {
         let mut text = content;
         if let Some(answer) = row.answer {
             text += &blanks(self.column.saturating_sub(width(&text)).max(1));
             text += &format!("-> {answer}");
         }
-        if let Some(mark) = row.mark() {
+        if let Some(mark) = mark_of(row) {
             text += &blanks(BEFORE_COMMENT);
             text += &mark;
         }
@@ -174,61 +146,21 @@ fn blanks(count: usize) -> String {
     " ".repeat(count)
 }
 
-/// Items of one line with the same answer.
-struct Row<'a> {
-    line: &'a Line,
-    is_profile: bool,
-    /// Their calls, where they are a part of the line's range.
-    calls: Option<String>,
-    answer: Option<&'a str>,
+fn mark_of(row: &Group) -> Option<String> {
+    match (row.differs(), row.has_ended()) {
+        (true, true) => Some(format!("{DIFFERS}{}; {ENDED}", row.expected())),
+        (true, false) => Some(format!("{DIFFERS}{}", row.expected())),
+        (false, true) => Some(format!("{NO_ANSWER}{ENDED}")),
+        (false, false) => None,
+    }
 }
 
-impl Row<'_> {
-    /// A line without `->` expects nothing; but a profile without it is expected
-    /// to be accepted.
-    fn differs(&self) -> bool {
-        let expected = self.line.expected.as_deref();
-        expected != self.answer && (expected.is_some() || self.is_profile)
-    }
-
-    fn has_ended(&self) -> bool {
-        self.answer.is_none() && !self.is_profile
-    }
-
-    fn expected(&self) -> &str {
-        self.line.expected.as_deref().unwrap_or("no refusal")
-    }
-
-    fn mark(&self) -> Option<String> {
-        match (self.differs(), self.has_ended()) {
-            (true, true) => Some(format!("{DIFFERS}{}; {ENDED}", self.expected())),
-            (true, false) => Some(format!("{DIFFERS}{}", self.expected())),
-            (false, true) => Some(format!("{NO_ANSWER}{ENDED}")),
-            (false, false) => None,
-        }
-    }
-
-    /// The message about the difference; the listing may have ended before.
-    fn difference(&self, ended: usize) -> String {
-        let answered = match self.answer {
-            Some(answer) => answer.to_string(),
-            None if self.is_profile => "nothing: the profile is accepted".to_string(),
-            None => format!("nothing: {ENDED} in line {ended}"),
-        };
-        let message = format!("expected {}, answered {answered}", self.expected());
-        match &self.calls {
-            Some(calls) => format!("call {calls}: {message}"),
-            None => message,
-        }
-    }
-
-    /// What the line says, of the row's calls alone. The calls are the third
-    /// word, and the first in which `..` can stand.
-    fn content(&self, whole: &str) -> String {
-        match (&self.calls, whole.split_whitespace().nth(2)) {
-            (Some(calls), Some(range)) => whole.replacen(range, calls, 1),
-            _ => whole.to_string(),
-        }
+/// What the line says, of the row's calls alone. The calls are the third word,
+/// and the first in which `..` can stand.
+fn content_of(row: &Group, whole: &str) -> String {
+    match (&row.calls, whole.split_whitespace().nth(2)) {
+        (Some(calls), Some(range)) => whole.replacen(range, calls, 1),
+        _ => whole.to_string(),
     }
 }
 
@@ -243,13 +175,4 @@ fn user_comment(line: &str) -> Option<(usize, &str)> {
     }
     let before = &line[..line.len() - comment.len()];
     Some((width(before), comment))
-}
-
-/// The calls of a row, as they are written.
-fn calls_of(row: &[Answered]) -> Option<String> {
-    let (first, last) = (row.first()?.0.call?, row.last()?.0.call?);
-    Some(match first == last {
-        true => first.to_string(),
-        false => format!("{first}..{last}"),
-    })
 }

@@ -20,6 +20,7 @@
 //! answer. All the kinds of items are in `items.rs`.
 
 mod answers;
+mod expected;
 mod explain;
 mod items;
 mod listed;
@@ -30,11 +31,12 @@ mod tests;
 mod values;
 
 pub use answers::{is_answer, PROFILE_REFUSED};
+pub use expected::{differences, Answered, Group};
 pub use explain::{explain, explain_item, explain_profile};
 pub use items::{assemble_body, operation_name};
 pub use listed::{heading, listed, Listed};
 pub use scenario::{
-    answerable, assemble, assemble_file, assemble_input, bytes_of, read_file, Line, Scenario,
-    Written,
+    answerable, assemble, assemble_file, assemble_input, bytes_of, read_file, read_to_list, Line,
+    Scenario, Written,
 };
-pub use values::{digit_character, hex_text, quoted};
+pub use values::{digit_character, hex_text};

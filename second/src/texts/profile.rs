@@ -1,8 +1,8 @@
 //! A profile in words, from words to bytes and back.
 
 use super::values::{
-    assemble_number, check_number, count, expected, missing, number_text, too_many, Field,
-    DEFAULT_TIMER, STORED_LENGTH, STORED_SERVICE,
+    assemble_number, check_number, count, expected, in_small_letters, missing, number_text,
+    too_many, Field, DEFAULT_TIMER, STORED_LENGTH, STORED_SERVICE,
 };
 use crate::paper::forms::{
     with_length_and_version, Handling, Profile, Sense, LENGTH_COUNTS, NUMBER_COUNTS, SERVICE_COUNTS,
@@ -42,7 +42,10 @@ impl<'a> Parts<'a> {
         let (handling, words) = match words {
             ["continue", words @ ..] => (0, words),
             ["release", words @ ..] => (1, words),
-            [other, ..] => return Err(expected("default handling", other, HANDLINGS)),
+            [other, ..] => {
+                let handlings = in_small_letters(other, HANDLINGS);
+                return Err(expected("default handling", other, &handlings));
+            }
             [] => return Err(missing("default handling", HANDLINGS)),
         };
         let [timer, words @ ..] = words else {
@@ -54,13 +57,17 @@ impl<'a> Parts<'a> {
             words => (0, words),
         };
         let (numbers, words) = split_before_keyword(words);
-        let (lengths, words) = take_list("length", words);
-        let (services, words) = take_list("service", words);
+        let (lengths, words) = take_list("length", &STORED_LENGTH, words)?;
+        let (services, words) = take_list("service", &STORED_SERVICE, words)?;
         let forwarding = match words {
             [] => 0,
             ["forwarding", "enabling"] => 1,
             ["forwarding", "inhibiting"] => 2,
-            _ => return Err(expected("end of the profile", &words.join(" "), FORM)),
+            _ => {
+                let text = words.join(" ");
+                let form = in_small_letters(&text, FORM);
+                return Err(expected("end of the profile", &text, &form));
+            }
         };
         Ok(Parts {
             handling,
@@ -79,13 +86,16 @@ impl<'a> Parts<'a> {
         content.extend(DEFAULT_TIMER.bytes(self.timer)?);
         content.push(self.sense);
         content.push(count("stored numbers", self.numbers.len())?);
-        for number in self.numbers {
-            content.extend(assemble_number(number)?);
+        for (place, word) in self.numbers.iter().enumerate() {
+            content.extend(match word.contains('/') {
+                true => assemble_number(word)?,
+                false => return Err(self.no_number(place, word)),
+            });
         }
-        for (name, list, field) in self.lists() {
+        for (name, list, field, behind) in self.lists() {
             content.push(count(name, list.len())?);
             for word in list {
-                content.extend(field.bytes(word)?);
+                content.extend(field.bytes_of(field.number_or(word, behind)?));
             }
         }
         content.push(self.forwarding);
@@ -102,7 +112,7 @@ impl<'a> Parts<'a> {
         for number in self.numbers {
             check_number(number)?;
         }
-        for (_, list, field) in self.lists() {
+        for (_, list, field, _) in self.lists() {
             for word in list {
                 field.check_well_formed(word)?;
             }
@@ -130,11 +140,32 @@ impl<'a> Parts<'a> {
         }
     }
 
-    fn lists(&self) -> [(&'static str, WordList<'a>, Field); 2] {
+    /// Each with the words that may stand behind it.
+    fn lists(&self) -> [(&'static str, WordList<'a>, Field, &'static str); 2] {
         [
-            ("stored lengths", self.lengths, STORED_LENGTH),
-            ("stored services", self.services, STORED_SERVICE),
+            (
+                "stored lengths",
+                self.lengths,
+                STORED_LENGTH,
+                "service, forwarding",
+            ),
+            (
+                "stored services",
+                self.services,
+                STORED_SERVICE,
+                "forwarding",
+            ),
         ]
+    }
+
+    /// The message for a word in the place of a stored number. It is rather one
+    /// of the profile's words with a slip.
+    fn no_number(&self, place: usize, word: &str) -> String {
+        let words = match (self.sense, place) {
+            (0, 0) => "enabling, inhibiting, length, service, or forwarding",
+            _ => "length, service, forwarding, or NATURE/DIGITS, such as 4/49151",
+        };
+        expected("word", word, &in_small_letters(word, words))
     }
 }
 
@@ -143,10 +174,18 @@ fn split_before_keyword<'a>(words: WordList<'a>) -> (WordList<'a>, WordList<'a>)
     words.split_at(words.iter().position(is_keyword).unwrap_or(words.len()))
 }
 
-fn take_list<'a>(keyword: &str, words: WordList<'a>) -> (WordList<'a>, WordList<'a>) {
+/// The list behind its keyword, and the words behind the list.
+fn take_list<'a>(
+    keyword: &str,
+    field: &Field,
+    words: WordList<'a>,
+) -> Result<(WordList<'a>, WordList<'a>), String> {
     match words {
-        [first, rest @ ..] if *first == keyword => split_before_keyword(rest),
-        _ => (&[], words),
+        [first, rest @ ..] if *first == keyword => match split_before_keyword(rest) {
+            ([], _) => Err(field.missing()),
+            split => Ok(split),
+        },
+        _ => Ok((&[], words)),
     }
 }
 

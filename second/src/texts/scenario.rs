@@ -1,9 +1,10 @@
 //! Reading a scenario: the lines of its text, and the bytes that they stand for.
 
 use super::answers::{self, is_answer, PROFILE_REFUSED};
-use super::items::{assemble_item, SMALL_LETTERS};
+use super::items::assemble_item;
 use super::profile::{self, assemble_profile};
-use super::values::{assemble_hex, expected, hex_text, missing, CALL, TIME};
+use super::values::{assemble_hex, expected, hex_text, in_small_letters, missing, CALL, TIME};
+use crate::output;
 use crate::paper::forms::{write_item, ITEM_LENGTHS, PROFILE_LENGTHS};
 use std::fs::File;
 use std::io::{self, Read};
@@ -29,6 +30,7 @@ pub struct Line {
 
 /// A text with its name, and what it stands for: a profile, then items.
 pub struct Scenario {
+    /// As messages have it.
     pub name: String,
     pub text: String,
     pub lines: Vec<Line>,
@@ -37,11 +39,25 @@ pub struct Scenario {
 /// The scenario in a file. A message names the file, and the line if there is
 /// one.
 pub fn read_file(file: &str) -> Result<Scenario, String> {
-    let opened = File::open(file).map_err(|error| unreadable(file, &error))?;
-    let text = read_text(file, opened)?;
-    let lines = assemble(file, &text)?;
-    let name = file.to_string();
+    let name = output::visible(file);
+    let opened = File::open(file).map_err(|error| unreadable(&name, &error))?;
+    let text = read_text(&name, opened)?;
+    let lines = assemble(&name, &text)?;
     Ok(Scenario { name, text, lines })
+}
+
+/// A scenario with something to be listed: an item, or a profile that is to be
+/// refused.
+pub fn read_to_list(file: &str) -> Result<Scenario, String> {
+    let scenario = read_file(file)?;
+    match &scenario.lines[..] {
+        [profile] if profile.expected.is_none() => Err(format!(
+            "{}: {}",
+            scenario.name,
+            missing("items", "at least one behind the profile")
+        )),
+        _ => Ok(scenario),
+    }
 }
 
 /// The lines of a file.
@@ -78,6 +94,11 @@ fn read_text(name: &str, input: impl Read) -> Result<String, String> {
     // Some editors put a byte order mark before a text.
     if text.starts_with('\u{FEFF}') {
         text.remove(0);
+    }
+    // It would be read as one line.
+    if !text.contains('\n') && text.trim_end().contains('\r') {
+        let fault = expected("line ends", "\r", "\\n or \\r\\n");
+        return Err(format!("{name}: {fault}"));
     }
     Ok(text)
 }
@@ -210,7 +231,7 @@ fn no_line(words: &[&str], first: bool) -> String {
     let text = words.join(" ");
     let small: Vec<String> = words.iter().map(|word| word.to_lowercase()).collect();
     let small: Vec<&str> = small.iter().map(String::as_str).collect();
-    let capitals = |word, small| expected("word", word, &format!("{small} ({SMALL_LETTERS})"));
+    let capitals = |word, small| expected("word", word, &in_small_letters(word, small));
     match (words, &small[..]) {
         ([word, ..], ["profile", ..]) if first => capitals(word, "profile"),
         ([word, ..], ["bytes", ..]) => capitals(word, "bytes"),

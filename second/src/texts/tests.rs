@@ -127,7 +127,7 @@ fn bytes_of_one_item() {
 }
 
 #[test]
-fn answers_that_can_be_given() {
+fn form_of_answers() {
     for answer in [
         "refused 1",
         "refused 14",
@@ -137,6 +137,12 @@ fn answers_that_can_be_given() {
         "ok control 19 r19/2 c1=0 c2=864000",
         "ok none - n9/1 c1=1 c2=2 over",
         "ok none - d281474976731125",
+        // No call is ever answered so, but a text may expect it.
+        "ok control - n7/1",
+        "ok control 50",
+        "ok control 255 r0/2",
+        "ok control 2 r2/2",
+        "ok none - c1=18446744073709551615",
     ] {
         assert!(is_answer(answer), "{answer}");
     }
@@ -146,18 +152,17 @@ fn answers_that_can_be_given() {
         "ok none",
         "ok contrl 2",
         "ok  none -",
-        "ok control 50",
-        "ok control 3",
         "ok control 02",
-        "ok control 2 r50/1",
-        "ok control 2 n2/1",
-        "ok control 2 r2/2",
+        "ok control 256",
+        "ok control +2",
+        "ok control 2 r2/3",
+        "ok control 2 r2",
+        "ok control 2 x2/1",
         "ok control 2 r9/1 n9/2",
         "ok none - c2=1 c1=1",
-        "ok none - c1=864001",
         "ok none - c1=01",
         "ok none - c1=",
-        "ok none - d281474976731126",
+        "ok none - c1=18446744073709551616",
         "ok none - over d1",
         "ok none - over over",
         "refused",

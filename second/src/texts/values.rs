@@ -1,6 +1,7 @@
 //! The values that stand in a text, from words to bytes and back; and the
 //! messages for words that are none.
 
+use crate::output;
 use crate::paper::forms::{Reader, CAUSES, DEFAULT_TIMERS, DIGIT_COUNTS, NATURES, PERIODS};
 use std::ops::RangeInclusive;
 
@@ -73,7 +74,7 @@ impl Field {
         let in_digits = word.bytes().all(|byte| byte.is_ascii_digit());
         match word.parse() {
             Ok(number) if in_digits && number <= self.largest() => Ok(number),
-            _ => Err(self.unexpected(word, others)),
+            _ => Err(expected(self.name, word, &self.or_number(word, others))),
         }
     }
 
@@ -107,8 +108,11 @@ impl Field {
         missing(self.name, &self.range_text())
     }
 
-    fn unexpected(&self, word: &str, others: &str) -> String {
-        expected(self.name, word, &format!("{others}{}", self.range_text()))
+    fn or_number(&self, word: &str, others: &str) -> String {
+        match others {
+            "" => self.range_text(),
+            others => in_small_letters(word, &format!("{others}, or {}", self.range_text())),
+        }
     }
 
     fn range_text(&self) -> String {
@@ -218,20 +222,25 @@ pub fn expected(field: &str, word: &str, what: &str) -> String {
     format!("{field} `{}`: expected {what}", quoted(word))
 }
 
+/// Words that are expected, for a message about this one: where it has capitals,
+/// they could be all that is wrong.
+pub fn in_small_letters(word: &str, words: &str) -> String {
+    match word.bytes().any(|byte| byte.is_ascii_uppercase()) {
+        true => format!("{words} (words are written in small letters)"),
+        false => words.to_string(),
+    }
+}
+
 /// The message about a word that is left out.
 pub fn missing(field: &str, what: &str) -> String {
     format!("{field} missing: expected {what}")
 }
 
-/// A word with nothing in it that could disturb the message.
-pub fn quoted(word: &str) -> String {
+/// The word as a message repeats it.
+fn quoted(word: &str) -> String {
     let mut text: String = word.chars().take(LONGEST_QUOTED).collect();
     if text.len() < word.len() {
         text += "..";
     }
-    let shown = |character: char| match character.is_control() {
-        true => character.escape_default().to_string(),
-        false => character.to_string(),
-    };
-    text.chars().map(shown).collect()
+    output::visible(&text)
 }
