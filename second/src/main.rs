@@ -11,6 +11,7 @@ mod bench;
 mod chart;
 mod commands;
 mod compare;
+mod nearest;
 mod output;
 mod paper;
 #[cfg(test)]

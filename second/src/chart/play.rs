@@ -4,7 +4,7 @@ use crate::paper::answer::Answer;
 use crate::paper::forms::{read_item, read_profile, ITEM_LENGTHS};
 use crate::paper::record::Record;
 use crate::paper::table::{self, Entry};
-use crate::texts::{Scenario, Written};
+use crate::texts::{length_field, Scenario, Written};
 use std::iter::Peekable;
 use std::vec::IntoIter;
 
@@ -119,8 +119,7 @@ fn record_of(call: u32, table: &[Entry]) -> Option<Record> {
 
 /// Whether the listing program reads nothing after the item.
 fn ends_listing(item: &[u8], number: usize) -> Option<Cause> {
-    let length = item.first_chunk().map(|field| u16::from_be_bytes(*field));
-    match length.map(usize::from) {
+    match length_field(item) {
         Some(length) if !ITEM_LENGTHS.contains(&length) => Some(Cause::Length(number)),
         Some(length) if item.len() == length => None,
         _ => Some(Cause::CutShort(number)),

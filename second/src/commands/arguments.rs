@@ -162,26 +162,3 @@ fn number(word: &str) -> Option<u64> {
     let in_digits = word.bytes().all(|byte| byte.is_ascii_digit());
     word.parse().ok().filter(|_| in_digits)
 }
-
-/// The name that a word is nearly, if there is one.
-pub fn closest<'a>(word: &str, names: impl Iterator<Item = &'a str>) -> Option<&'a str> {
-    let distances = names.map(|name| (distance(word, name), name));
-    let (distance, name) = distances.min()?;
-    (distance <= 2 && distance < word.len()).then_some(name)
-}
-
-/// How many characters have to be added, removed or changed to come from one
-/// word to the other.
-fn distance(from: &str, to: &str) -> usize {
-    let mut row: Vec<usize> = (0..=to.chars().count()).collect();
-    for (removed, from) in from.chars().enumerate() {
-        let mut before = removed;
-        row[0] = removed + 1;
-        for (place, to) in to.chars().enumerate() {
-            let changed = before + usize::from(from != to);
-            before = row[place + 1];
-            row[place + 1] = changed.min(before + 1).min(row[place] + 1);
-        }
-    }
-    row[row.len() - 1]
-}

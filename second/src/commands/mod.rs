@@ -14,6 +14,7 @@ use crate::compare::{
     check, chunks, compare_chunks, compare_listings, compare_tables, compare_triggers, coverage,
     generate, list, tables, triggers,
 };
+use crate::nearest::nearest;
 use crate::output;
 use crate::paper::listing;
 use crate::texts::{self, Line};
@@ -294,10 +295,10 @@ pub fn run(words: &[&str]) -> Result<bool, String> {
 fn find(name: &str) -> Result<&'static Command, String> {
     let names = || all().map(|command| command.name);
     all().find(|command| command.name == name).ok_or_else(|| {
-        let closest = arguments::closest(name, names());
-        let closest = closest.map_or(String::new(), |name| format!(", but `{name}`"));
+        let nearest = nearest(name, names());
+        let nearest = nearest.map_or(String::new(), |name| format!(", but `{name}`"));
         let name = output::visible(name);
-        format!("there is no command `{name}`{closest} (see second --help)")
+        format!("there is no command `{name}`{nearest} (see second --help)")
     })
 }
 

@@ -1,7 +1,8 @@
-//! The usage in its width, what is close to a word, and what is read of words.
+//! The usage in its width, what is near to a word, and what is read of words.
 
-use super::arguments::{closest, read, Takes};
+use super::arguments::{read, Takes};
 use super::{all, usage, COUNT, FILE, LIMIT, PROGRAM, QUICK, SEED};
+use crate::nearest::nearest;
 use Takes::{Choice, Maybe, One, Several};
 
 const TAKES: [Takes; 4] = [One(PROGRAM), One(COUNT), Maybe(SEED), Choice(LIMIT)];
@@ -36,7 +37,7 @@ fn close_words() {
         ("x", None),
         ("", None),
     ] {
-        assert_eq!(closest(word, names()), expected, "{word}");
+        assert_eq!(nearest(word, names()), expected, "{word}");
     }
 }
 

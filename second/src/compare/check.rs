@@ -1,6 +1,7 @@
 //! Scenarios with their expected answers in the text, held against the
 //! listing program and against this one.
 
+use crate::compare::list::HEADER;
 use crate::compare::program::Program;
 use crate::compare::shown;
 use crate::output;
@@ -48,7 +49,10 @@ fn first_difference(lines: &[Line], program: &str, theirs: &[u8], ours: &[u8]) -
 /// Where a line of the listing belongs to, and what it is; at last, nothing. The
 /// profile is number 0 in the listing, the items follow it.
 fn expected_lines(lines: &[Line]) -> Vec<(String, Option<Vec<u8>>)> {
-    let mut expected = vec![("the header".to_string(), Some(b"item answer\n".to_vec()))];
+    let mut expected = vec![(
+        "the header".to_string(),
+        Some(format!("{HEADER}\n").into_bytes()),
+    )];
     for (number, line) in lines.iter().enumerate() {
         if number == 0 && line.expected.is_none() {
             continue; // a good profile gets no answer

@@ -10,7 +10,7 @@ use crate::texts::{
 use std::str;
 
 /// The first line of every listing.
-const HEADER: &str = "item answer";
+pub const HEADER: &str = "item answer";
 
 /// Lists all the files; true if every answer is as the texts expect it. Nothing
 /// is run before all of them are read.

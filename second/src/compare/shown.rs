@@ -1,6 +1,8 @@
 //! What another program has written, made fit to be read, whatever it is: what
 //! is no plain text is escaped, and what is long is cut.
 
+use crate::texts::hex_text;
+
 /// So many bytes are shown of a line.
 const LONGEST: usize = 200;
 /// And so many in hex.
@@ -40,14 +42,11 @@ pub fn hex_from_difference(bytes: &[u8], expected: &[u8]) -> String {
 }
 
 fn hex(bytes: &[u8]) -> String {
-    let shown = bytes.iter().take(LONGEST_HEX);
-    let mut words: Vec<String> = shown.map(|byte| format!("{byte:02X}")).collect();
-    match bytes.len() {
-        0 => words.push("nothing".to_string()),
-        length if length > LONGEST_HEX => words.push("..".to_string()),
-        _ => {}
+    match bytes.get(..LONGEST_HEX) {
+        _ if bytes.is_empty() => "nothing".to_string(),
+        Some(start) if bytes.len() > LONGEST_HEX => format!("{} ..", hex_text(start)),
+        _ => hex_text(bytes),
     }
-    words.join(" ")
 }
 
 /// The first lines that are not the same, with their number, counted from 0:

@@ -6,6 +6,7 @@ use super::values::{
     number_text, Field, CAUSE, ENTRY_LEG, ENTRY_MODE, ENTRY_POINT, ENTRY_TIMER, LEG, PERIOD,
     SERVICE,
 };
+use crate::nearest::nearest;
 use crate::paper::forms::{kind, Operation, Reader};
 
 /// The kinds and their forms. Words in small letters stand as they are, words
@@ -274,8 +275,7 @@ fn unknown_kind(word: &str) -> String {
     if let Some(name) = names().find(|name| *name == small) {
         return expected("item", word, &in_small_letters(word, name));
     }
-    let nearest = names().min_by_key(|name| distance(name, &small));
-    match nearest.filter(|name| distance(name, &small) <= NEAR) {
+    match nearest(word, names()) {
         Some(name) => {
             let what = format!("{} (the nearest is {name})", all_names());
             expected("item", word, &what)
@@ -287,27 +287,4 @@ fn unknown_kind(word: &str) -> String {
 fn all_names() -> String {
     let names: Vec<&str> = FORMS.iter().map(|(_, form)| name_in(form)).collect();
     format!("one of {}", names.join(", "))
-}
-
-/// So many slips of the keyboard can lie between a word and its typo.
-const NEAR: usize = 2;
-/// Longer words are not near to any name.
-const LONGEST_NEAR: usize = 20;
-
-/// How many letters have to be put in, left out or replaced to make one word of
-/// the other.
-fn distance(from: &str, to: &str) -> usize {
-    let to: Vec<char> = to.chars().take(LONGEST_NEAR).collect();
-    // The distances of what is read of `from` to each beginning of `to`.
-    let mut distances: Vec<usize> = (0..=to.len()).collect();
-    for (place, letter) in from.chars().enumerate() {
-        let mut replaced = distances[0];
-        distances[0] = place + 1;
-        for end in 1..=to.len() {
-            let change = replaced + usize::from(to[end - 1] != letter);
-            replaced = distances[end];
-            distances[end] = change.min(replaced + 1).min(distances[end - 1] + 1);
-        }
-    }
-    distances[to.len()]
 }

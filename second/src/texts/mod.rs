@@ -36,7 +36,7 @@ pub use explain::{explain, explain_item, explain_profile};
 pub use items::{assemble_body, operation_name};
 pub use listed::{heading, listed, Listed};
 pub use scenario::{
-    answerable, assemble, assemble_file, assemble_input, bytes_of, read_file, read_to_list, Line,
-    Scenario, Written,
+    answerable, assemble, assemble_file, assemble_input, bytes_of, length_field, read_file,
+    read_to_list, Line, Scenario, Written,
 };
 pub use values::{digit_character, hex_text};

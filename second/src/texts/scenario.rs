@@ -298,7 +298,8 @@ pub fn answerable(lines: &[Line]) -> usize {
         .map_or(items.len(), |place| place + 1)
 }
 
-fn length_field(bytes: &[u8]) -> Option<usize> {
+/// What the first two bytes say.
+pub fn length_field(bytes: &[u8]) -> Option<usize> {
     bytes
         .first_chunk()
         .map(|field| u16::from_be_bytes(*field).into())
