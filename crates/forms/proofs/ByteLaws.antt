@@ -1,17 +1,17 @@
 -- Laws of byte runs, for the proofs of the functions and for the theorems.
 use Prim.Native.Nat.{ℕ, zero, suc, _+_, _*_, _/_, _%_, _^_, _≤_, _<_}
-use mathlib.Core.Path.{_≡_, refl}
+use mathlib.Core.Path.{_≡_, refl, sym, ap, _∙_}
 use mathlib.Core.List.{List, [], _∷_, _++_, append-assoc}
 use mathlib.Core.Bool.{Bool, true, false, _&&_, cond, and-true, and-false, and-assoc, false≢true}
 use mathlib.Core.Logic.{_⊎_, inl, inr}
 use native.Mathlib.Numerals.{add-one}
-use native.Mathlib.Nat.{pow-suc, add-zero, add-suc, suc-add}
-use lib.ListN.{length, getD, drop, set, drop-of-length-le, length-append}
+use native.Mathlib.Nat.{pow-suc, add-zero, zero-add, add-suc, suc-add}
+use lib.ListN.{length, getD, take, drop, set, replicate, drop-of-length-le, length-append, length-replicate, length-take}
 use native.Mathlib.Omega.{arith}
 use lib.Dec.{eqb, leb, ltb}
-use lib.Seq.{drop-cons, getD-at, sets}
+use lib.Seq.{drop-cons, getD-at, sets, sets-eq, take-append-seam}
 use borrow.Author.Tests.{eq-eqb, ne-eqb, eqb-true, ltb-true, ltb-false, le-ltb, le-leb}
-use Rattle.forms.specs.Bytes.{toBytes, fromBytes, within, all, contains, leads, same}
+use Rattle.forms.specs.Bytes.{toBytes, fromBytes, pad, within, all, contains, leads, same}
 use Rattle.forms.specs.Fields.{frame, framed}
 use Rattle.forms.specs.Framing.{framingAs, framingOf}
 use Rattle.forms.specs.declared.framing.Framing.the-variants as F
@@ -101,6 +101,32 @@ sets-more (x ∷ a) b d i = rw (add-suc, ← suc-add i (length a)) (sets-more a 
 
 pub sets-then : (a b d : List ℕ) (i n : ℕ) → n ≡ i + length a → sets (sets d i a) n b ≡ sets d i (a ++ b)
 sets-then a b d i n e = rw e (sets-more a b d i)
+
+-- ---- bytes in n places, zeros behind them
+
+pad-is : (n : ℕ) (s : List ℕ) → length s ≤ n → pad n s ≡ s ++ drop (length s) (replicate n 0)
+pad-is zero [] h = refl
+pad-is zero (x ∷ s) h = absurd (omega arith)
+pad-is (suc n) [] h = ap (λ (r : List ℕ). 0 ∷ r) (pad-is n [] (omega arith))
+pad-is (suc n) (x ∷ s) h = ap (λ (r : List ℕ). x ∷ r) (pad-is n s (omega arith))
+
+pub pad-front : (n : ℕ) (s : List ℕ) → length s ≤ n → take (length s) (pad n s) ≡ s
+pad-front n s h = ap (take (length s)) (pad-is n s h) ∙ take-append-seam s (drop (length s) (replicate n 0))
+
+-- a run stored in n zeros; and the first n bytes of one that may be longer
+pub pad-stored : (n : ℕ) (s : List ℕ) → length s ≤ n → sets (replicate n 0) 0 s ≡ pad n s
+pad-stored n s h =
+    let z : List ℕ = replicate n 0 in
+    let r : 0 + length s ≤ length z = omega (arith, length-replicate {A = ℕ} n 0) in
+    sets-eq s z 0 r ∙ ap (λ (k : ℕ). s ++ drop k z) (zero-add (length s)) ∙ sym (pad-is n s h)
+
+pad-taken : (n : ℕ) (s : List ℕ) → pad n (take n s) ≡ pad n s
+pad-taken zero s = refl
+pad-taken (suc n) [] = refl
+pad-taken (suc n) (x ∷ s) = ap (λ (r : List ℕ). x ∷ r) (pad-taken n s)
+
+pub pad-cut : (n : ℕ) (s : List ℕ) → sets (replicate n 0) 0 (take n s) ≡ pad n s
+pad-cut n s = pad-stored n (take n s) (omega (arith, length-take n s)) ∙ pad-taken n s
 
 -- ---- runs that lead, and runs that are the same
 

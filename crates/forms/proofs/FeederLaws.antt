@@ -7,8 +7,8 @@ use mathlib.Core.Logic.{_⊎_, inl, inr}
 use native.Mathlib.Nat.{zero-add}
 use native.Mathlib.Omega.{arith}
 use borrow.Author.Tests.{ltb-true, ltb-false, leb-true, leb-false, le-ltb, le-leb}
-use lib.ListN.{length, take, drop, replicate, length-append, length-replicate, length-take, List·getD-append}
-use lib.Seq.{sets, sets-eq, take-append-seam}
+use lib.ListN.{length, take, drop, replicate, length-append, length-take, List·getD-append}
+use lib.Seq.{sets}
 use lib.Dec.{ltb, leb}
 use Rattle.forms.specs.Bytes.{fromBytes, pad, within}
 use Rattle.forms.specs.Framing.{framingAs, framingOf, itemFraming, isShort}
@@ -18,30 +18,12 @@ use Rattle.forms.specs.declared.framing.Framing.the-variants as F
 use Rattle.forms.specs.declared.feeder.Feeder.{Feeder}
 use Rattle.forms.specs.declared.feeder.Taken.{Taken}
 use Rattle.forms.specs.declared.feeder.Taken.the-variants as T
-use Rattle.forms.proofs.ByteLaws.{below-or-past, and-left, and-right, sets-then}
+use Rattle.forms.proofs.ByteLaws.{below-or-past, and-left, and-right, sets-then, pad-front, pad-stored}
 
--- ---- bytes in n places, zeros behind them
+-- ---- two runs stored one behind the other in n zeros
 
-pad-is : (n : ℕ) (s : List ℕ) → length s ≤ n → pad n s ≡ s ++ drop (length s) (replicate n 0)
-pad-is zero [] h = refl
-pad-is zero (x ∷ s) h = absurd (omega arith)
-pad-is (suc n) [] h = ap (λ (r : List ℕ). 0 ∷ r) (pad-is n [] (omega arith))
-pad-is (suc n) (x ∷ s) h = ap (λ (r : List ℕ). x ∷ r) (pad-is n s (omega arith))
-
--- two runs stored one behind the other in n zeros
-pub pad-stored : (n : ℕ) (h c : List ℕ) → length h + length c ≤ n → sets (sets (replicate n 0) 0 h) (length h) c ≡ pad n (h ++ c)
-pad-stored n h c l =
-    let z : List ℕ = replicate n 0 in
-    let s = h ++ c in
-    let e : length s ≤ n = omega (arith, length-append h c) in
-    let r : 0 + length s ≤ length z = omega (arith, length-replicate {A = ℕ} n 0) in
-    sets-then h c z 0 (length h) (sym (zero-add (length h)))
-    ∙ sets-eq s z 0 r
-    ∙ ap (λ (k : ℕ). s ++ drop k z) (zero-add (length s))
-    ∙ sym (pad-is n s e)
-
-pub pad-front : (n : ℕ) (s : List ℕ) → length s ≤ n → take (length s) (pad n s) ≡ s
-pad-front n s h = ap (take (length s)) (pad-is n s h) ∙ take-append-seam s (drop (length s) (replicate n 0))
+pub pad-both : (n : ℕ) (h c : List ℕ) → length h + length c ≤ n → sets (sets (replicate n 0) 0 h) (length h) c ≡ pad n (h ++ c)
+pad-both n h c l = sets-then h c (replicate n 0) 0 (length h) (sym (zero-add (length h))) ∙ pad-stored n (h ++ c) (omega (arith, length-append h c))
 
 -- ---- what t bytes whose first two are the number n begin with, told by what it is
 

@@ -22,9 +22,9 @@ use Rattle.forms.specs.declared.feeder.Taken.{Taken}
 use Rattle.forms.specs.declared.feeder.Taken.the-variants as T
 use Rattle.forms.specs.declared.feeder.Outcome.the-variants as O
 use Rattle.forms.specs.declared.feeder.Fed.{Fed}
-use Rattle.forms.proofs.ByteLaws.{and-left, and-right}
+use Rattle.forms.proofs.ByteLaws.{and-left, and-right, pad-front}
 use Rattle.forms.proofs.ItemTheorems.{read-back, item-framed}
-use Rattle.forms.proofs.FeederLaws.{pad-front, told, more, before-bad, before-whole, Takes, takes}
+use Rattle.forms.proofs.FeederLaws.{told, more, before-bad, before-whole, Takes, takes}
 use borrow.Author.Tests.{le-ltb, le-leb, ltb-true}
 use lib.Dec.{ltb}
 

@@ -6,11 +6,11 @@ use mathlib.Core.Bool.{Bool, true, false, _&&_, cond, and-true, and-assoc}
 use native.Mathlib.Omega.{arith}
 use lib.ListN.{length, getD, take, drop, length-append, length-drop}
 use lib.Seq.{drop-drop, getD-drop}
-use lib.Dec.{leb, ltb, eqb, lit≤}
+use lib.Dec.{leb, eqb, lit≤}
 use borrow.Author.Tests.{leb-true, eqb-true}
-use Rattle.forms.specs.Bytes.{toBytes, fromBytes, within, leads, same, pad}
-use Rattle.forms.specs.Units.{clockEnd}
-use Rattle.forms.specs.Fields.{allInRange, frame, framed}
+use Rattle.forms.specs.Bytes.{toBytes, fromBytes, leads, same}
+use Rattle.forms.specs.Units.{isClockReading}
+use Rattle.forms.specs.Fields.{nature, mostDigits, isDigitCount, entryCount, allInRange, frame, framed}
 use Rattle.forms.specs.Item.{formOf, fieldBytes, restInRange, itemBytes, itemInRange, restAt, restOf, itemOf, isItem, readItem, headOf, fixedOf}
 use Rattle.forms.specs.declared.item.Body.{Body}
 use Rattle.forms.specs.declared.item.Body.the-variants as B
@@ -19,7 +19,7 @@ use Rattle.forms.specs.declared.item.Rest.the-variants.{Nothing, Digits,
 use Rattle.forms.specs.declared.item.Fixed.{Fixed}
 use Rattle.forms.specs.declared.item.Item.{Item}
 use Rattle.forms.specs.declared.item.ReadItem.the-variants as R
-use Rattle.forms.proofs.ByteLaws.{picked, and-left, and-right, leads-both, leads-next, same-rest, same-true, framed-same, own-bytes}
+use Rattle.forms.proofs.ByteLaws.{pad-front, picked, and-left, and-right, leads-both, leads-next, same-rest, same-true, framed-same, own-bytes}
 
 -- how many bytes follow the fields
 abbrev pub followed : Rest → ℕ
@@ -32,7 +32,7 @@ abbrev Small : Body → Type 0
 Small b = (length (fieldBytes b) ≤ 5) × (allInRange (formOf b .fields) ≡ true → length (fieldBytes b) + followed (formOf b .rest) ≤ 51)
 
 small : (b : Body) → Small b
-small (B.Setup n s f c) = (lit≤ tt, λ h. omega (arith, leb-true c 15 (and-right (leb 1 c) _ (and-left (within 1 15 c) true (and-right (within 0 127 n) _ h)))))
+small (B.Setup n s f c) = (lit≤ tt, λ h. omega (arith, leb-true c mostDigits (and-right (leb 1 c) _ (and-left (isDigitCount c) true (and-right (nature n .inRange) _ h)))))
 small (B.RouteFailure c) = (lit≤ tt, λ h. lit≤ tt)
 small (B.Busy c) = (lit≤ tt, λ h. lit≤ tt)
 small B.NoAnswer = (lit≤ tt, λ h. lit≤ tt)
@@ -42,9 +42,9 @@ small (B.MidCall d) = (lit≤ tt, λ h. lit≤ tt)
 small B.Moved = (lit≤ tt, λ h. lit≤ tt)
 small (B.Clear l c) = (lit≤ tt, λ h. lit≤ tt)
 small (B.PeriodOver l) = (lit≤ tt, λ h. lit≤ tt)
-small (B.RequestReport c) = (lit≤ tt, λ h. omega (arith, leb-true c 10 (and-right (leb 1 c) _ (and-left (within 1 10 c) true h))))
+small (B.RequestReport c) = (lit≤ tt, λ h. omega (arith, leb-true c 10 (and-right (leb 1 c) _ (and-left (entryCount c .inRange) true h))))
 small B.Continue = (lit≤ tt, λ h. lit≤ tt)
-small (B.Connect n c) = (lit≤ tt, λ h. omega (arith, leb-true c 15 (and-right (leb 1 c) _ (and-left (within 1 15 c) true (and-right (within 0 127 n) _ h)))))
+small (B.Connect n c) = (lit≤ tt, λ h. omega (arith, leb-true c mostDigits (and-right (leb 1 c) _ (and-left (isDigitCount c) true (and-right (nature n .inRange) _ h)))))
 small B.Release = (lit≤ tt, λ h. lit≤ tt)
 small (B.ApplyCharging l p) = (lit≤ tt, λ h. lit≤ tt)
 small B.ActivityTest = (lit≤ tt, λ h. lit≤ tt)
@@ -59,17 +59,11 @@ pub item-size : (i : Item) (t : List ℕ) → itemInRange i t ≡ true → lengt
 unfolding itemInRange
 item-size i t h =
     let f = formOf (i .body) in
-    let r = and-left (allInRange (f .fields) && restInRange (f .rest) t) (ltb (i .time .0) clockEnd) h in
+    let r = and-left (allInRange (f .fields) && restInRange (f .rest) t) (isClockReading (i .time)) h in
     rw (rest-size (f .rest) t (and-right (allInRange (f .fields)) _ r)) (small (i .body) .1 (and-left (allInRange (f .fields)) (restInRange (f .rest) t) r))
 
-pad-back : (n : ℕ) (l : List ℕ) → length l ≤ n → take (length l) (pad n l) ≡ l
-pad-back zero [] h = refl
-pad-back zero (x ∷ l) h = absurd (omega arith)
-pad-back (suc n) [] h = refl
-pad-back (suc n) (x ∷ l) h = ap (λ (r : List ℕ). x ∷ r) (pad-back n l (omega arith))
-
 pub fields-back : (b : Body) → take (fixedOf (formOf b) .len) (fixedOf (formOf b) .bytes) ≡ fieldBytes b
-fields-back b = pad-back 5 (fieldBytes b) (small b .0)
+fields-back b = pad-front 5 (fieldBytes b) (small b .0)
 
 module _ (i : Item) (t : List ℕ) where
   -- an item's bytes are its first 14, its fields, and its digits or entries
@@ -103,7 +97,7 @@ module _ (i : Item) (f : Fixed) (e : f ≡ fixedOf (formOf (i .body))) where
   unfolding restAt
   rest-at = rw e
 
-  pub item-in-range : (t : List ℕ) → itemInRange i t ≡ ((f .in_range && restInRange (f .rest) t) && ltb (i .time .0) clockEnd)
+  pub item-in-range : (t : List ℕ) → itemInRange i t ≡ ((f .in_range && restInRange (f .rest) t) && isClockReading (i .time))
   unfolding itemInRange
   item-in-range t = rw e
 
@@ -123,7 +117,7 @@ module _ (i : Item) (f : Fixed) (e : f ≡ fixedOf (formOf (i .body))) where
 
     pub is-item : isItem i s
         ≡ (((leads (frame (length s)) s && eqb (f .kind) (getD s 3 0)) && leads (take (f .len) (f .bytes)) (drop 14 s))
-        && ((f .in_range && restInRange (f .rest) (drop (14 + f .len) s)) && ltb (i .time .0) clockEnd))
+        && ((f .in_range && restInRange (f .rest) (drop (14 + f .len) s)) && isClockReading (i .time)))
     unfolding isItem itemBytes itemInRange restAt
     is-item = rw (← head-same, e, fields-back (i .body), form-same (formOf (i .body) .kind) (i .call) (i .time .0) (fieldBytes (i .body)) s)
 

@@ -11,8 +11,9 @@ use borrow.Author.Tests.{eq-eqb, ne-eqb, lt-leb}
 use lib.ListN.{length, getD, take, drop, drop-of-length-le}
 use lib.Seq.{drop-cons, drop-drop, getD-drop, length-take-le, take-all}
 use lib.Dec.{leb, eqb, leb·zero}
-use Rattle.forms.specs.Bytes.{within, part, all, leads, same}
-use Rattle.forms.specs.Fields.{Field, bytesIn, allInRange, frame}
+use Rattle.forms.specs.Bytes.{part, all, leads, same}
+use Rattle.forms.specs.Units.{isDefaultTimer}
+use Rattle.forms.specs.Fields.{Field, isDigitCount, bytesIn, allInRange, frame}
 use Rattle.forms.specs.Profile.{handlingNumber, criterionNumber, numberFields, listFields, fieldsOf, profileBytes, senseInRange, profileInRange, handlingOf, criterionOf, listAt, listEnd, numberAt, numbersAt, numbersEnd, viewAt, viewOf, profileOf}
 use Rattle.forms.specs.declared.profile.ProfileView.{ProfileView}
 use Rattle.forms.proofs.ByteLaws.{below-or-past, framed-same}
@@ -138,7 +139,7 @@ module _ (s : List ℕ) (p : ProfileView) (e : p ≡ viewOf s) where
       (rw (numbers-same s w₂ refl n 7, list-same s w₃ refl l, list-same s w₄ refl v, last-same (criterionNumber (profileOf s .forwarding)) s f, handling-is (getD s 3 0), criterion-is (getD s 5 0), criterion-is (getD s f 0)) (simp and-assoc)))
 
   pub profile-in-range : profileInRange (profileOf s)
-      ≡ ((within 10 180 (p .timer .0) && leb n 10 && allInRange (numberFields (numbersAt n s 7)) && leb (length (listAt s (p .lengths))) 3 && all (within 1 15) (listAt s (p .lengths)) && leb (length (listAt s (p .services))) 5)
+      ≡ ((isDefaultTimer (p .timer) && leb n 10 && allInRange (numberFields (numbersAt n s 7)) && leb (length (listAt s (p .lengths))) 3 && all isDigitCount (listAt s (p .lengths)) && leb (length (listAt s (p .services))) 5)
       && senseInRange (p .sense) (n + length (listAt s (p .lengths))))
   unfolding profileInRange fieldsOf profileOf viewAt
   profile-in-range = rw (e, in-range-both (numberFields (numbersAt n s 7)) (listFields (profileOf s)), counts n s 7) (simp (leb·zero, and-assoc, and-true))

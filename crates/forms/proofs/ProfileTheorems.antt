@@ -9,7 +9,8 @@ use lib.ListN.{length, getD, drop, length-append}
 use lib.Seq.{drop-drop, take-append-seam, drop-append-seam}
 use lib.Dec.{leb, eqb}
 use Rattle.forms.specs.Bytes.{fromBytes, within, all, same}
-use Rattle.forms.specs.Fields.{bytesIn, allInRange}
+use Rattle.forms.specs.Units.{isDefaultTimer}
+use Rattle.forms.specs.Fields.{nature, mostDigits, isDigitCount, isDigit, bytesIn, allInRange}
 use Rattle.forms.specs.Framing.{profileFraming}
 use Rattle.forms.specs.declared.framing.Framing.the-variants as F
 use Rattle.forms.specs.Profile.{Number, Profile, handlingNumber, criterionNumber, numberFields, listFields, fieldsOf, profileBytes, senseInRange, profileInRange, handlingOf, criterionOf, listAt, listEnd, numbersAt, numbersEnd, viewAt, viewOf, profileOf, isProfile, readProfile}
@@ -98,9 +99,9 @@ numbers-size : (ns : List Number) → allInRange (numberFields ns) ≡ true → 
 numbers-size [] h = omega arith
 numbers-size (x ∷ ns) h =
     let d = length (x .digits) in
-    let r = and-right (within 0 127 (x .nature)) _ h in
-    let m : d ≤ 15 = leb-true d 15 (and-right (leb 1 d) _ (and-left (within 1 15 d) _ r)) in
-    let i = numbers-size ns (and-right (all (within 0 14) (x .digits)) _ (and-right (within 1 15 d) _ r)) in
+    let r = and-right (nature (x .nature) .inRange) _ h in
+    let m : d ≤ mostDigits = leb-true d mostDigits (and-right (leb 1 d) _ (and-left (isDigitCount d) _ r)) in
+    let i = numbers-size ns (and-right (all isDigit (x .digits)) _ (and-right (isDigitCount d) _ r)) in
     omega (arith, length-append (x .digits) (bytesIn (numberFields ns)))
 
 size : (p : Profile) → profileInRange p ≡ true → (10 ≤ length (profileBytes p)) × (length (profileBytes p) ≤ 188)
@@ -109,10 +110,10 @@ size p h =
     let ns = numberFields (p .numbers) in
     let l = length (p .lengths) in
     let v = length (p .services) in
-    let ok = and-right (within 10 180 (p .timer .0)) _ (and-left _ (senseInRange (p .sense) (length (p .numbers) + l)) h) in
+    let ok = and-right (isDefaultTimer (p .timer)) _ (and-left _ (senseInRange (p .sense) (length (p .numbers) + l)) h) in
     let both : (allInRange ns && allInRange (listFields p)) ≡ true = sym (in-range-both ns (listFields p)) ∙ and-right (within 0 10 (length (p .numbers))) _ ok in
     let lists = and-right (allInRange ns) _ both in
-    let after = and-right (all (within 1 15) (p .lengths)) _ (and-right (within 0 3 l) _ lists) in
+    let after = and-right (all isDigitCount (p .lengths)) _ (and-right (within 0 3 l) _ lists) in
     let m₁ = leb-true (length (p .numbers)) 10 (and-right (leb 0 (length (p .numbers))) _ (and-left (within 0 10 (length (p .numbers))) _ ok)) in
     let m₂ = numbers-size (p .numbers) (and-left (allInRange ns) _ both) in
     let m₃ = leb-true l 3 (and-right (leb 0 l) _ (and-left (within 0 3 l) _ lists)) in

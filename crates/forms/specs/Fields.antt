@@ -38,8 +38,14 @@ abbrev pub forwarded : Bool → Field
 forwarded b = byte (flag b) true
 
 -- digit count 1..15, one byte per digit 0..14
+abbrev pub mostDigits : ℕ
+mostDigits = 15
+
+abbrev pub isDigitCount : ℕ → Bool
+isDigitCount = within 1 mostDigits
+
 abbrev pub digitCount : ℕ → Field
-digitCount n = byte n (within 1 15 n)
+digitCount n = byte n (isDigitCount n)
 
 abbrev pub isDigit : ℕ → Bool
 isDigit = within 0 14

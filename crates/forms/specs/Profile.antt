@@ -6,7 +6,7 @@ use lib.ListN.{length, getD}
 use lib.Dec.{leb, eqb}
 use Rattle.forms.specs.Bytes.{within, part, all, leads, same}
 use Rattle.forms.specs.Units.{isDefaultTimer}
-use Rattle.forms.specs.Fields.{Field, byte, run, nature, digitCount, digits, bytesIn, allInRange, framed}
+use Rattle.forms.specs.Fields.{Field, byte, run, nature, isDigitCount, digitCount, digits, bytesIn, allInRange, framed}
 use Rattle.forms.specs.declared.units.Seconds.{Seconds}
 use Rattle.forms.specs.declared.profile.Handling.{Handling}
 use Rattle.forms.specs.declared.profile.Handling.the-variants as H
@@ -44,6 +44,10 @@ criterionNumber C.Absent = 0
 criterionNumber C.Enabling = 1
 criterionNumber C.Inhibiting = 2
 
+abbrev pub isRelease : Handling → Bool
+isRelease H.Continue = false
+isRelease H.Release = true
+
 -- ---- the written form
 
 -- a count of at most n
@@ -58,7 +62,7 @@ numberFields (n ∷ ns) = nature (n .nature) ∷ digitCount (length (n .digits))
 -- "length count 0..3, each 1..15; service count 0..5, each one byte; forwarding"
 abbrev pub listFields : Profile → List Field
 listFields p =
-    upTo 3 (length (p .lengths)) ∷ run (p .lengths) (all (within 1 15) (p .lengths))
+    upTo 3 (length (p .lengths)) ∷ run (p .lengths) (all isDigitCount (p .lengths))
     ∷ upTo 5 (length (p .services)) ∷ run (p .services) true
     ∷ byte (criterionNumber (p .forwarding)) true
     ∷ []

@@ -114,7 +114,7 @@ pub fn leads(a: &[u8], d: &[u8]) -> bool
 }
 
 // Stores the bytes of `s` in `d`, from place `at` on.
-pub(crate) fn copy_in(d: &mut [u8], at: usize, s: &[u8])
+pub fn copy_in(d: &mut [u8], at: usize, s: &[u8])
     requires { ⌜ at + length (now s) ≤ length (now d) ⌝ }
     ensures { λ _. ⌜ now (d .exit) ≡ sets (now (d .entry)) at (now (s .entry)) ⌝ }
 {

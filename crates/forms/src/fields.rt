@@ -1,19 +1,64 @@
-// The largest values of the fields, each said once (document 01, Forms), and the frame around every form.
+// The fields' ranges, each said once (document 01, Forms), and the frame around every form.
 ghost use mathlib.Core.Path.{_≡_};
 ghost use lib.ListN.{length};
-ghost use Rattle.forms.specs.Bytes.{leads};
-ghost use Rattle.forms.specs.Fields.{frame};
+ghost use Rattle.forms.specs.Bytes.{all, leads};
+ghost use Rattle.forms.specs.Fields.{nature, digitCount, isDigitCount, isDigit, cause, entryCount, frame};
 use crate::bytes;
 
-pub(crate) const NATURE: u8 = 127;
+// The largest values.
+const NATURE: u8 = 127;
 
-pub(crate) const DIGIT: u8 = 14;
+pub const MOST_DIGITS: u8 = 15;
 
-pub(crate) const DIGITS: u8 = 15;
+const DIGIT: u8 = 14;
 
-pub(crate) const CAUSE: u8 = 127;
+const CAUSE: u8 = 127;
 
-pub(crate) const ENTRIES: u8 = 10;
+const ENTRIES: u8 = 10;
+
+pub fn is_nature(n: u8) -> bool
+    ensures { λ r. ⌜ r ≡ nature n .inRange ⌝ }
+{
+    bytes::is_within(n, 0, NATURE)
+}
+
+pub fn is_digit_count(n: usize) -> bool
+    ensures { λ r. ⌜ r ≡ digitCount n .inRange ⌝ }
+{
+    (1 <= n) & (n <= MOST_DIGITS as usize)
+}
+
+// Each byte is a digit count.
+pub(crate) fn are_digit_counts(s: &[u8]) -> bool
+    ensures { λ r. ⌜ r ≡ all isDigitCount (now (s .entry)) ⌝ }
+{
+    bytes::all_within(s, 1, MOST_DIGITS)
+}
+
+pub fn is_digit(d: u8) -> bool
+    ensures { λ r. ⌜ r ≡ isDigit d ⌝ }
+{
+    bytes::is_within(d, 0, DIGIT)
+}
+
+// Each byte is a digit.
+pub(crate) fn are_digits(s: &[u8]) -> bool
+    ensures { λ r. ⌜ r ≡ all isDigit (now (s .entry)) ⌝ }
+{
+    bytes::all_within(s, 0, DIGIT)
+}
+
+pub(crate) fn is_cause(n: u8) -> bool
+    ensures { λ r. ⌜ r ≡ cause n .inRange ⌝ }
+{
+    bytes::is_within(n, 0, CAUSE)
+}
+
+pub(crate) fn is_entry_count(n: u8) -> bool
+    ensures { λ r. ⌜ r ≡ entryCount n .inRange ⌝ }
+{
+    bytes::is_within(n, 1, ENTRIES)
+}
 
 // The bytes begin with their own length and version 1.
 pub(crate) fn is_framed(s: &[u8]) -> bool

@@ -4,9 +4,8 @@ ghost use mathlib.Core.List.{[], _∷_};
 ghost use mathlib.Core.Bool.{true, _&&_};
 ghost use Prim.Native.Nat.{_+_, _*_, _≤_};
 ghost use lib.ListN.{length, drop};
-ghost use lib.Dec.{ltb};
 ghost use Rattle.forms.specs.Bytes.{toBytes};
-ghost use Rattle.forms.specs.Units.{clockEnd};
+ghost use Rattle.forms.specs.Units.{isClockReading};
 ghost use Rattle.forms.specs.Fields.{legNumber};
 ghost use Rattle.forms.specs.Item.{formOf, restInRange, legOf, bodyFrom, callIn, itemOf, itemInRange, isItem, readItem, readItemAt, entryOf, readEntry, fixed, fixedOf};
 use crate::bytes;
@@ -149,22 +148,21 @@ pub(crate) fn fixed_of(body: Body) -> Fixed
             1,
             4,
             [nature, service, forwarded as u8, count, 0],
-            bytes::is_within(nature, 0, fields::NATURE)
-                & bytes::is_within(count, 1, fields::DIGITS),
+            fields::is_nature(nature) & fields::is_digit_count(count as usize),
             Rest::Digits(count),
         ),
-        Body::RouteFailure(cause) => one_field(2, cause, bytes::is_within(cause, 0, fields::CAUSE)),
-        Body::Busy(cause) => one_field(3, cause, bytes::is_within(cause, 0, fields::CAUSE)),
+        Body::RouteFailure(cause) => one_field(2, cause, fields::is_cause(cause)),
+        Body::Busy(cause) => one_field(3, cause, fields::is_cause(cause)),
         Body::NoAnswer => no_field(4),
         Body::Seized => no_field(5),
         Body::Answer => no_field(6),
-        Body::MidCall(digit) => one_field(7, digit, bytes::is_within(digit, 0, fields::DIGIT)),
+        Body::MidCall(digit) => one_field(7, digit, fields::is_digit(digit)),
         Body::Moved => no_field(8),
         Body::Clear(leg, cause) => row(
             9,
             2,
             [leg_number(leg), cause, 0, 0, 0],
-            bytes::is_within(cause, 0, fields::CAUSE),
+            fields::is_cause(cause),
             Rest::Nothing,
         ),
         Body::PeriodOver(leg) => one_field(10, leg_number(leg), true),
@@ -172,7 +170,7 @@ pub(crate) fn fixed_of(body: Body) -> Fixed
             20,
             1,
             [count, 0, 0, 0, 0],
-            bytes::is_within(count, 1, fields::ENTRIES),
+            fields::is_entry_count(count),
             Rest::Entries(count),
         ),
         Body::Continue => no_field(21),
@@ -180,8 +178,7 @@ pub(crate) fn fixed_of(body: Body) -> Fixed
             22,
             2,
             [nature, count, 0, 0, 0],
-            bytes::is_within(nature, 0, fields::NATURE)
-                & bytes::is_within(count, 1, fields::DIGITS),
+            fields::is_nature(nature) & fields::is_digit_count(count as usize),
             Rest::Digits(count),
         ),
         Body::Release => no_field(23),
@@ -259,18 +256,18 @@ fn rest_in_range(rest: Rest, t: &[u8]) -> bool
     let n = t.len();
     match rest {
         Rest::Nothing => n == 0,
-        Rest::Digits(count) => (n == count as usize) & bytes::all_within(t, 0, fields::DIGIT),
+        Rest::Digits(count) => (n == count as usize) & fields::are_digits(t),
         Rest::Entries(count) => n == count as usize * 5,
     }
 }
 
 // Every field of the item is in its range, and `t` is its digits or entries.
 pub(crate) fn item_in_range(item: Item, f: Fixed, t: &[u8]) -> bool
-    ensures { λ r. ⌜ r ≡ ((f .in_range && restInRange (f .rest) (now (t .entry))) && ltb (item .time .0) clockEnd) ⌝ }
+    ensures { λ r. ⌜ r ≡ ((f .in_range && restInRange (f .rest) (now (t .entry))) && isClockReading (item .time)) ⌝ }
 {
-    let time = item.time.0;
+    let time = item.time;
     let rest = f.rest;
-    f.in_range & rest_in_range(rest, t) & (time < Tenths::CLOCK_END.0)
+    f.in_range & rest_in_range(rest, t) & time.is_clock_reading()
 }
 
 // The same for an item alone: every field is in its range, and `t` is what follows.

@@ -3,7 +3,7 @@
 pub mod bytes;
 pub mod comparison;
 pub mod feeder;
-mod fields;
+pub mod fields;
 pub mod framing;
 pub mod item;
 pub mod profile;

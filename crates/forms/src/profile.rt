@@ -4,7 +4,7 @@ ghost use mathlib.Core.List.{[], _∷_};
 ghost use Prim.Native.Nat.{_+_, _≤_};
 ghost use lib.ListN.{getD};
 ghost use Rattle.forms.specs.Fields.{allInRange};
-ghost use Rattle.forms.specs.Profile.{handlingOf, criterionOf, criterionAt, numberFields, senseInRange, listAt, listEnd, numberAt, numbersAt, numbersEnd, viewAt, viewOf, profileOf, isProfile, readProfile, matches, someMatches};
+ghost use Rattle.forms.specs.Profile.{isRelease, handlingOf, criterionOf, criterionAt, numberFields, senseInRange, listAt, listEnd, numberAt, numbersAt, numbersEnd, viewAt, viewOf, profileOf, isProfile, readProfile, matches, someMatches};
 use crate::bytes;
 use crate::comparison;
 use crate::fields;
@@ -40,6 +40,15 @@ pub enum ReadProfile {
 pub(crate) struct Numbers {
     pub in_range: bool,
     pub end: usize,
+}
+
+pub fn is_release(h: Handling) -> bool
+    ensures { λ r. ⌜ r ≡ isRelease h ⌝ }
+{
+    match h {
+        Handling::Continue => false,
+        Handling::Release => true,
+    }
 }
 
 // A byte that is neither number of a choice is settled by `is_profile`.
@@ -104,10 +113,9 @@ fn number_in_range(s: &[u8], q: usize) -> bool
     ensures { λ r. ⌜ r ≡ allInRange (numberFields (numberAt (now (s .entry)) q ∷ [])) ⌝ }
 {
     let digits = list_at(s, q + 1);
-    let n = digits.len();
-    bytes::is_within(bytes::at(s, q), 0, fields::NATURE)
-        & ((1 <= n) & (n <= fields::DIGITS as usize))
-        & bytes::all_within(digits, 0, fields::DIGIT)
+    fields::is_nature(bytes::at(s, q))
+        & fields::is_digit_count(digits.len())
+        & fields::are_digits(digits)
 }
 
 // The stored numbers: whether all are in range, and where they end.
@@ -150,7 +158,7 @@ fn is_profile(s: &[u8], p: ProfileView, numbers: bool) -> bool
     requires { ⌜ ((p ≡ viewOf (now s)) × (numbers ≡ allInRange (numberFields (numbersAt (getD (now s) 6 0) (now s) 7)))) × (p .services ≤ 66000) ⌝ }
     ensures { λ r. ⌜ r ≡ isProfile (profileOf (now (s .entry))) (now (s .entry)) ⌝ }
 {
-    let timer = p.timer.0;
+    let timer = p.timer;
     let sense = p.sense;
     let lengths = list_at(s, p.lengths);
     let services = list_at(s, p.services);
@@ -161,11 +169,11 @@ fn is_profile(s: &[u8], p: ProfileView, numbers: bool) -> bool
         & (bytes::at(s, 5) <= 2)
         & (bytes::at(s, f) <= 2)
         & (bytes::from(s, f).len() == 1);
-    let in_range = ((10 <= timer) & (timer <= 180))
+    let in_range = timer.is_default_timer()
         & (n <= 10)
         & numbers
         & (lengths.len() <= 3)
-        & bytes::all_within(lengths, 1, fields::DIGITS)
+        & fields::are_digit_counts(lengths)
         & (services.len() <= 5);
     written & (in_range & sense_in_range(sense, bytes::size(n) + lengths.len()))
 }

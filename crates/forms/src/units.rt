@@ -1,6 +1,6 @@
 // Tenths of a second and whole seconds, kept apart (document 01, Units).
 ghost use mathlib.Core.Path.{_≡_};
-ghost use Rattle.forms.specs.Units.{isPeriod, periodOf, timerOf, tenthsOf};
+ghost use Rattle.forms.specs.Units.{isClockReading, isPeriod, periodOf, isTimer, timerOf, isDefaultTimer, tenthsOf};
 
 // Clock readings, charged periods and elapsed times.
 pub struct Tenths(pub u64);
@@ -24,6 +24,12 @@ impl Tenths {
     // Past the last clock reading, which is six bytes long.
     pub const CLOCK_END: Tenths = Tenths(281474976710656);
 
+    pub fn is_clock_reading(self) -> bool
+        ensures { λ r. ⌜ r ≡ isClockReading self ⌝ }
+    {
+        self.0 < Self::CLOCK_END.0
+    }
+
     pub fn is_period(self) -> bool
         ensures { λ r. ⌜ r ≡ isPeriod self ⌝ }
     {
@@ -46,12 +52,26 @@ impl Tenths {
 impl Seconds {
     pub const LONGEST_TIMER: Seconds = Seconds(2047);
 
+    pub fn is_timer(self) -> bool
+        ensures { λ r. ⌜ r ≡ isTimer self ⌝ }
+    {
+        self.0 <= Self::LONGEST_TIMER.0
+    }
+
+    // A profile's default timer.
+    pub fn is_default_timer(self) -> bool
+        ensures { λ r. ⌜ r ≡ isDefaultTimer self ⌝ }
+    {
+        (10 <= self.0) & (self.0 <= 180)
+    }
+
     // A timer of n seconds, or refusal 11.
     pub fn timer(n: u32) -> Timer
         ensures { λ r. ⌜ r ≡ timerOf n ⌝ }
     {
-        if n <= Self::LONGEST_TIMER.0 {
-            Timer::Of(Seconds(n))
+        let t = Seconds(n);
+        if t.is_timer() {
+            Timer::Of(t)
         } else {
             Timer::Refused(11)
         }

@@ -9,7 +9,7 @@ use Rattle.forms.specs.Item.{readItem}
 use Rattle.forms.specs.Feeder.{gathered}
 use Rattle.forms.specs.declared.item.ReadItem.{ReadItem}
 use Rattle.forms.specs.declared.feeder.Gathered.{Gathered}
-use Rattle.forms.proofs.FeederLaws.{pad-front}
+use Rattle.forms.proofs.ByteLaws.{pad-front}
 use Rattle.forms.proofs.feeder.complete.Statement.{statement}
 use Rattle.forms.proofs.feeder.complete.Tie as tie
 

@@ -1,7 +1,7 @@
 -- `forms::feeder::join` meets its contract.
 use borrow.Author.Needs.{needs}
 use lib.ListN.{length-append}
-use Rattle.forms.proofs.FeederLaws.{pad-stored}
+use Rattle.forms.proofs.FeederLaws.{pad-both}
 use Rattle.forms.proofs.feeder.join.Statement.{statement}
 use Rattle.forms.proofs.feeder.join.Tie as tie
 
@@ -10,7 +10,7 @@ returns c =
     let a = c .before .before .before .before .before .before .before .before in
     let h = a .args .h .now in
     let s = a .args .c .now in
-    rw (c .before .copy-in2 .ensures, c .before .before .before .before .copy-in .ensures, pad-stored 65 h s (a .pre), length-append h s)
+    rw (c .before .copy-in2 .ensures, c .before .before .before .before .copy-in .ensures, pad-both 65 h s (a .pre), length-append h s)
 
 pub join-spec : {M : Type 1} → statement M
 join-spec =

@@ -6,4 +6,4 @@ pub item-in-range-spec : {M : Type 1} → statement M
 item-in-range-spec =
     tie.close
     (tie.spec
-    (λ c κs. search needs) (λ c. rw (c .before .before .rest-in-range .ensures)))
+    (λ c κs. search needs) (λ c κs. search needs) (λ c. rw (c .is-clock-reading .ensures, c .before .before .rest-in-range .ensures)))

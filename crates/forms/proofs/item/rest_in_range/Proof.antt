@@ -8,5 +8,5 @@ rest-in-range-spec =
     (tie.spec
     (λ c. search needs) (λ c. search needs) (λ c. search needs) (λ c κs. search needs) (λ c. search needs) (λ c. search needs) (λ c. search needs)
     (λ c. simp (c .enum-told .given .1))
-    (λ c. simp (c .all-within .ensures, c .before .before .rest .given .1))
+    (λ c. simp (c .are-digits .ensures, c .before .before .rest .given .1))
     (λ c. simp (c .before .rest2 .given .1)))
