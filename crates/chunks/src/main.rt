@@ -6,9 +6,9 @@ mod show;
 
 use forms::bytes;
 use forms::feeder;
+use forms::feeder::Completed;
 use forms::feeder::Feeder;
 use forms::feeder::Gathered;
-use forms::feeder::Outcome;
 use libc::STDIN_FILENO;
 
 // The length of a case without steps.
@@ -42,11 +42,11 @@ fn feeder_of(s: &[u8]) -> Feeder {
 }
 
 // An item or an answer 1: the rest is offered again.
-fn is_answer(o: Outcome) -> bool {
-    match o {
-        Outcome::Item(_, _) => true,
-        Outcome::Refused(n) => n == 1,
-        Outcome::UsedUp => false,
+fn is_answer(c: Completed) -> bool {
+    match c {
+        Completed::Item(_, _) => true,
+        Completed::Refused(n) => n == 1,
+        Completed::UsedUp => false,
     }
 }
 
@@ -58,10 +58,10 @@ fn feed_chunk(f: Feeder, c: &[u8]) -> Feeder {
     while calls <= c.len() {
         let fed = feeder::feed(feeder, bytes::from(c, bytes::minus(c.len(), left)));
         let next = fed.feeder;
-        let outcome = fed.outcome;
+        let completed = fed.completed;
         show::show_fed(fed);
         feeder = next;
-        if !is_answer(outcome) {
+        if !is_answer(completed) {
             return feeder;
         }
         left = bytes::minus(left, fed.used);

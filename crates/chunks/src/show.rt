@@ -2,11 +2,11 @@
 //   fed USED item HEX left LEFT, fed USED refused NUMBER left LEFT, fed USED used-up left LEFT, reset DROPPED left LEFT
 // LEFT is the feeder afterwards: its count, the bytes that it holds, if any, and whether it is stopped.
 use forms::bytes;
+use forms::feeder::Completed;
 use forms::feeder::Dropped;
 use forms::feeder::Fed;
 use forms::feeder::Feeder;
 use forms::feeder::Gathered;
-use forms::feeder::Outcome;
 use libc::STDOUT_FILENO;
 
 fn put(t: &[u8]) {
@@ -54,27 +54,27 @@ fn put_left(f: Feeder) {
     put(b"\n");
 }
 
-fn put_outcome(o: Outcome, g: Gathered) {
-    match o {
-        Outcome::Item(_, _) => {
+fn put_completed(c: Completed, g: Gathered) {
+    match c {
+        Completed::Item(_, _) => {
             put(b" item ");
             put_bytes(g);
         }
-        Outcome::Refused(n) => {
+        Completed::Refused(n) => {
             put(b" refused ");
             put_number(n as u64);
         }
-        Outcome::UsedUp => put(b" used-up"),
+        Completed::UsedUp => put(b" used-up"),
     }
 }
 
 pub(crate) fn show_fed(fed: Fed) {
-    let outcome = fed.outcome;
+    let completed = fed.completed;
     let item = fed.bytes;
     let feeder = fed.feeder;
     put(b"fed ");
     put_number(fed.used as u64);
-    put_outcome(outcome, item);
+    put_completed(completed, item);
     put_left(feeder);
 }
 

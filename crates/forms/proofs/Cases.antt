@@ -27,7 +27,7 @@ use Rattle.forms.specs.declared.item.ReadItem.{ReadItem}
 use Rattle.forms.specs.declared.item.ReadItem.the-variants as R
 use Rattle.forms.specs.declared.item.ReadEntry.the-variants as E
 use Rattle.forms.specs.declared.feeder.Feeder.{Feeder}
-use Rattle.forms.specs.declared.feeder.Outcome.the-variants as O
+use Rattle.forms.specs.declared.feeder.Completed.the-variants as C
 use Rattle.forms.specs.declared.profile.Handling.the-variants.{Continue, Release}
 use Rattle.forms.specs.declared.profile.Criterion.the-variants.{Absent, Enabling, Inhibiting}
 use Rattle.forms.specs.declared.profile.ReadProfile.the-variants as P
@@ -295,16 +295,16 @@ profile-runs = refl
 -- T-02: length fields 13, 14, 65 and 66, and a byte more, for a new feeder
 pub length-fields :
     map (λ (n : ℕ). feedOf newFeeder (0 ∷ n ∷ 9 ∷ [])) (13 ∷ 14 ∷ 65 ∷ 66 ∷ [])
-    ≡ withoutItem stoppedFeeder 2 (O.Refused 1)
-    ∷ withoutItem (holding (gathered (0 ∷ 14 ∷ 9 ∷ []))) 3 O.UsedUp
-    ∷ withoutItem (holding (gathered (0 ∷ 65 ∷ 9 ∷ []))) 3 O.UsedUp
-    ∷ withoutItem stoppedFeeder 2 (O.Refused 1)
+    ≡ withoutItem stoppedFeeder 2 (C.Refused 1)
+    ∷ withoutItem (holding (gathered (0 ∷ 14 ∷ 9 ∷ []))) 3 C.UsedUp
+    ∷ withoutItem (holding (gathered (0 ∷ 65 ∷ 9 ∷ []))) 3 C.UsedUp
+    ∷ withoutItem stoppedFeeder 2 (C.Refused 1)
     ∷ []
 unfolding framingOf isClosed takeOf feedOf
 length-fields = refl
 
 -- a malformed item, of version 2: answered 1, and not handed out
-pub malformed-fed : feedOf newFeeder (item 14 2 6 []) ≡ withoutItem newFeeder 14 (O.Refused 1)
+pub malformed-fed : feedOf newFeeder (item 14 2 6 []) ≡ withoutItem newFeeder 14 (C.Refused 1)
 unfolding all same itemBytes itemInRange restAt bodyFrom bodyOf itemOf isItem readItem framingOf isClosed takeOf feedOf
 malformed-fed = refl
 
@@ -316,7 +316,7 @@ closedFeeders =
     ∷ holding (gathered (0 ∷ 14 ∷ replicate 12 0)) ∷ holding (gathered (0 ∷ 14 ∷ replicate 13 0)) ∷ holding (gathered (0 ∷ 65 ∷ replicate 63 0)) ∷ holding (record { bytes = pad 65 (0 ∷ 65 ∷ []); count = 66 })
     ∷ []
 
-pub closed-refused : map (λ (f : Feeder). feedOf f (1 ∷ [])) closedFeeders ≡ map (λ (f : Feeder). withoutItem f 0 (O.Refused 15)) closedFeeders
+pub closed-refused : map (λ (f : Feeder). feedOf f (1 ∷ [])) closedFeeders ≡ map (λ (f : Feeder). withoutItem f 0 (C.Refused 15)) closedFeeders
 unfolding framingOf isClosed takeOf feedOf
 closed-refused = refl
 

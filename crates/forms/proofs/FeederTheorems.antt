@@ -11,7 +11,7 @@ use lib.Seq.{take-append-seam, drop-append-seam, take-append-le, drop-append-le,
 use Rattle.forms.specs.Bytes.{fromBytes, within}
 use Rattle.forms.specs.Framing.{framingOf, isShort}
 use Rattle.forms.specs.Item.{itemBytes, itemInRange, restAt, itemOf, isItem, readItem}
-use Rattle.forms.specs.Feeder.{bytesOf, gathered, holding, newFeeder, stoppedFeeder, begins, isClosed, takenAs, takeOf, withoutItem, completed, completedAs, fedAs, feedOf, resetOf, Placed, Got, nothingBut, andThen, isAnswer, placed, offered, chunkFed, chunksFed, joined, runAs, runFrom, runOf}
+use Rattle.forms.specs.Feeder.{bytesOf, gathered, holding, newFeeder, stoppedFeeder, begins, isClosed, takenAs, takeOf, withoutItem, wholeFed, wholeFedAs, fedAs, feedOf, resetOf, Placed, Got, nothingBut, andThen, isAnswer, placed, offered, chunkFed, chunksFed, joined, runAs, runFrom, runOf}
 use Rattle.forms.specs.declared.framing.Framing.{Framing}
 use Rattle.forms.specs.declared.framing.Framing.the-variants as F
 use Rattle.forms.specs.declared.item.Item.{Item}
@@ -20,7 +20,7 @@ use Rattle.forms.specs.declared.item.ReadItem.the-variants as R
 use Rattle.forms.specs.declared.feeder.Feeder.{Feeder}
 use Rattle.forms.specs.declared.feeder.Taken.{Taken}
 use Rattle.forms.specs.declared.feeder.Taken.the-variants as T
-use Rattle.forms.specs.declared.feeder.Outcome.the-variants as O
+use Rattle.forms.specs.declared.feeder.Completed.the-variants as C
 use Rattle.forms.specs.declared.feeder.Fed.{Fed}
 use Rattle.forms.proofs.ByteLaws.{and-left, and-right, pad-front}
 use Rattle.forms.proofs.ItemTheorems.{read-back, item-framed}
@@ -53,17 +53,17 @@ stopped-chunks p (c ∷ cs) = rw (stopped-offered (suc (length c)) p c, stopped-
 
 -- a call of those that offer a chunk again, with r its answer
 abbrev afterCall : ℕ → ℕ → List ℕ → Fed → Got
-afterCall n p c r = cond (isAnswer (r .outcome)) (andThen (placed r (p + r .used)) (offered n (r .feeder) (p + r .used) (drop (r .used) c))) (nothingBut (r .feeder))
+afterCall n p c r = cond (isAnswer (r .completed)) (andThen (placed r (p + r .used)) (offered n (r .feeder) (p + r .used) (drop (r .used) c))) (nothingBut (r .feeder))
 
 -- a whole item is an answer, and feeding goes on as new
-whole-call : (n p u k : ℕ) (c s : List ℕ) → afterCall n p c (completed u s) ≡ andThen (placed (completed k s) (p + u)) (offered n newFeeder (p + u) (drop u c))
+whole-call : (n p u k : ℕ) (c s : List ℕ) → afterCall n p c (wholeFed u s) ≡ andThen (placed (wholeFed k s) (p + u)) (offered n newFeeder (p + u) (drop u c))
 unfolding readItem
 whole-call n p u k c s = go (isItem (itemOf s) s)
   where
     read : Bool → ReadItem
     read b = cond b (R.Item (itemOf s) (restAt (itemOf s .body))) (R.Refused 1)
 
-    go : (b : Bool) → afterCall n p c (completedAs (read b) u s) ≡ andThen (placed (completedAs (read b) k s) (p + u)) (offered n newFeeder (p + u) (drop u c))
+    go : (b : Bool) → afterCall n p c (wholeFedAs (read b) u s) ≡ andThen (placed (wholeFedAs (read b) k s) (p + u)) (offered n newFeeder (p + u) (drop u c))
     go true = refl
     go false = refl
 
@@ -98,7 +98,7 @@ offered-run (suc n) (suc m) q h c e l k = ap (afterCall n (q + length h) c) (fed
         let z = length-append h c in
         let next : offered n newFeeder (q + j) w ≡ runFrom m (q + j) w =
         ap (λ (k : ℕ). offered n newFeeder k w) (sym (add-zero (q + j))) ∙ ih (q + j) [] w new-short (omega arith) (omega arith) in
-        ap (λ (x : List ℕ). afterCall n (q + length h) c (completed u (x ++ take u c))) (held h c e) ∙ whole-call n (q + length h) u j c (h ++ take u c) ∙ rw (s, p, d) (ap (andThen (placed (completed j (take j (h ++ c))) (q + j))) next)
+        ap (λ (x : List ℕ). afterCall n (q + length h) c (wholeFed u (x ++ take u c))) (held h c e) ∙ whole-call n (q + length h) u j c (h ++ take u c) ∙ rw (s, p, d) (ap (andThen (placed (wholeFed j (take j (h ++ c))) (q + j))) next)
 
 -- ---- chunks one after the other
 
@@ -134,7 +134,7 @@ then-chunks cs all (suc n) (suc m) q w l k = go (begins w) refl (then-chunks cs 
         let y = length-append (drop j w) d in
         let i : j ≤ length w = omega arith in
         let p : q + length w ≡ q + j + length (drop j w) = omega arith in
-        rw (more w d (F.Whole j) b refl, take-append-le j w d i, drop-append-le j w d i, p) (ap (andThen (placed (completed j (take j w)) (q + j))) (ih (q + j) (drop j w) (omega arith) (omega arith)))
+        rw (more w d (F.Whole j) b refl, take-append-le j w d i, drop-append-le j w d i, p) (ap (andThen (placed (wholeFed j (take j w)) (q + j))) (ih (q + j) (drop j w) (omega arith) (omega arith)))
 
 chunks-run : (cs : List (List ℕ)) (m q : ℕ) (h : List ℕ) → begins h ≡ F.Short → length (h ++ joined cs) < m → chunksFed (holding (gathered h)) (q + length h) cs ≡ runFrom m q (h ++ joined cs)
 unfolding chunksFed joined
@@ -162,26 +162,26 @@ cut f cs =
     as-run f cs ∙ sym (offered-run n n 0 [] s new-short (omega arith) (omega arith))
 
 -- an answer uses a byte at least, and no more than the chunk has
-pub uses : (f : Feeder) (c : List ℕ) → isAnswer (feedOf f c .outcome) ≡ true → (1 ≤ feedOf f c .used) × (feedOf f c .used ≤ length c)
+pub uses : (f : Feeder) (c : List ℕ) → isAnswer (feedOf f c .completed) ≡ true → (1 ≤ feedOf f c .used) × (feedOf f c .used ≤ length c)
 unfolding feedOf
 uses f c = go (takeOf f c) (takes f c)
   where
-    completed-used : (r : ReadItem) (n : ℕ) (s : List ℕ) → completedAs r n s .used ≡ n
-    completed-used (R.Item i a) n s = refl
-    completed-used (R.Refused m) n s = refl
+    whole-used : (r : ReadItem) (n : ℕ) (s : List ℕ) → wholeFedAs r n s .used ≡ n
+    whole-used (R.Item i a) n s = refl
+    whole-used (R.Refused m) n s = refl
 
-    go : (t : Taken) → Takes f c t → isAnswer (fedAs t f c .outcome) ≡ true → (1 ≤ fedAs t f c .used) × (fedAs t f c .used ≤ length c)
+    go : (t : Taken) → Takes f c t → isAnswer (fedAs t f c .completed) ≡ true → (1 ≤ fedAs t f c .used) × (fedAs t f c .used ≤ length c)
     go T.Closed k n = absurd (false≢true n)
     go (T.Bad m) k n = k
     go T.Unfinished k n = absurd (false≢true n)
-    go (T.Whole m) k n = let s = bytesOf (f .held) ++ take m c in rw (completed-used (readItem s) m s) (k .0, k .1)
+    go (T.Whole m) k n = let s = bytesOf (f .held) ++ take m c in rw (whole-used (readItem s) m s) (k .0, k .1)
 
 -- so one call more than the chunk has bytes is enough
 pub enough : (n m : ℕ) (f : Feeder) (p : ℕ) (c : List ℕ) → length c < n → length c < m → offered n f p c ≡ offered m f p c
 unfolding offered
 enough zero m f p c l k = absurd (omega arith)
 enough (suc n) zero f p c l k = absurd (omega arith)
-enough (suc n) (suc m) f p c l k = go (isAnswer (r .outcome)) refl (enough n m)
+enough (suc n) (suc m) f p c l k = go (isAnswer (r .completed)) refl (enough n m)
   where
     r : Fed
     r = feedOf f c
@@ -192,7 +192,7 @@ enough (suc n) (suc m) f p c l k = go (isAnswer (r .outcome)) refl (enough n m)
     one : List Placed
     one = placed r q
 
-    go : (x : Bool) → isAnswer (r .outcome) ≡ x
+    go : (x : Bool) → isAnswer (r .completed) ≡ x
         → ((f : Feeder) (p : ℕ) (c : List ℕ) → length c < n → length c < m → offered n f p c ≡ offered m f p c)
         → cond x (andThen one (offered n (r .feeder) q (drop (r .used) c))) (nothingBut (r .feeder)) ≡ cond x (andThen one (offered m (r .feeder) q (drop (r .used) c))) (nothingBut (r .feeder))
     go false e ih = refl
@@ -225,7 +225,7 @@ abbrev pub handedOut : ℕ → List Sent → List Placed
 handedOut q [] = []
 handedOut q (x ∷ xs) =
     let b = itemBytes (x .item) (x .rest) in
-    record { outcome = O.Item (x .item) (restAt (x .item .body)); bytes = gathered b; place = q + length b } ∷ handedOut (q + length b) xs
+    record { completed = C.Item (x .item) (restAt (x .item .body)); bytes = gathered b; place = q + length b } ∷ handedOut (q + length b) xs
 
 sent-run : (n q : ℕ) (xs : List Sent) → length (sentBytes xs) < n → allSentInRange xs ≡ true → runFrom n q (sentBytes xs) ≡ record { answers = handedOut q xs; left = newFeeder }
 unfolding runFrom framingOf
@@ -242,7 +242,7 @@ sent-run (suc n) q (x ∷ xs) l a =
     let z = length-append b w in
     let k = told b (F.Whole (length b)) e in
     rw (more b w (F.Whole (length b)) e refl, take-append-seam b w, drop-append-seam b w, back)
-    (ap (andThen (placed (completedAs (R.Item i (restAt (i .body))) (length b) b) (q + length b))) (sent-run n (q + length b) xs (omega arith) (and-right (sentInRange x) (allSentInRange xs) a)))
+    (ap (andThen (placed (wholeFedAs (R.Item i (restAt (i .body))) (length b) b) (q + length b))) (sent-run n (q + length b) xs (omega arith) (and-right (sentInRange x) (allSentInRange xs) a)))
 
 pub in-order : (f : Feeder) (xs : List Sent) (cs : List (List ℕ)) → allSentInRange xs ≡ true → joined cs ≡ sentBytes xs → chunksFed (resetOf f .feeder) 0 cs ≡ record { answers = handedOut 0 xs; left = newFeeder }
 in-order f xs cs a e = as-run f cs ∙ ap runOf e ∙ sent-run (suc (length (sentBytes xs))) 0 xs (omega arith) a

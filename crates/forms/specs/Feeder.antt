@@ -15,8 +15,8 @@ use Rattle.forms.specs.declared.feeder.Gathered.{Gathered}
 use Rattle.forms.specs.declared.feeder.Feeder.{Feeder}
 use Rattle.forms.specs.declared.feeder.Taken.{Taken}
 use Rattle.forms.specs.declared.feeder.Taken.the-variants as T
-use Rattle.forms.specs.declared.feeder.Outcome.{Outcome}
-use Rattle.forms.specs.declared.feeder.Outcome.the-variants as O
+use Rattle.forms.specs.declared.feeder.Completed.{Completed}
+use Rattle.forms.specs.declared.feeder.Completed.the-variants as C
 use Rattle.forms.specs.declared.feeder.Fed.{Fed}
 use Rattle.forms.specs.declared.feeder.Dropped.{Dropped}
 
@@ -62,23 +62,23 @@ takenAs (F.Whole n) h = T.Whole (n - length h)
 unfoldable pub takeOf : Feeder → List ℕ → Taken
 takeOf f c = let h = bytesOf (f .held) in cond (isClosed f) T.Closed (takenAs (begins (h ++ c)) h)
 
--- the next feeder, how many bytes of the chunk were used, and the outcome; no item is handed out with it
-abbrev pub withoutItem : Feeder → ℕ → Outcome → Fed
-withoutItem f n o = record { feeder = f; used = n; outcome = o; bytes = gathered [] }
+-- the next feeder, how many bytes of the chunk were used, and what was completed, where that is no item
+abbrev pub withoutItem : Feeder → ℕ → Completed → Fed
+withoutItem f n c = record { feeder = f; used = n; completed = c; bytes = gathered [] }
 
 -- a whole item of the bytes s: handed out with its bytes, read as the reader reads them; "a malformed one is answered 1 instead and feeding goes on"
-abbrev pub completedAs : ReadItem → ℕ → List ℕ → Fed
-completedAs (R.Item i a) n s = record { feeder = newFeeder; used = n; outcome = O.Item i a; bytes = gathered s }
-completedAs (R.Refused m) n s = withoutItem newFeeder n (O.Refused m)
+abbrev pub wholeFedAs : ReadItem → ℕ → List ℕ → Fed
+wholeFedAs (R.Item i a) n s = record { feeder = newFeeder; used = n; completed = C.Item i a; bytes = gathered s }
+wholeFedAs (R.Refused m) n s = withoutItem newFeeder n (C.Refused m)
 
-abbrev pub completed : ℕ → List ℕ → Fed
-completed n s = completedAs (readItem s) n s
+abbrev pub wholeFed : ℕ → List ℕ → Fed
+wholeFed n s = wholeFedAs (readItem s) n s
 
 abbrev pub fedAs : Taken → Feeder → List ℕ → Fed
-fedAs T.Closed f c = withoutItem f 0 (O.Refused 15)
-fedAs (T.Bad n) f c = withoutItem stoppedFeeder n (O.Refused 1)
-fedAs T.Unfinished f c = withoutItem (holding (gathered (bytesOf (f .held) ++ c))) (length c) O.UsedUp
-fedAs (T.Whole n) f c = completed n (bytesOf (f .held) ++ take n c)
+fedAs T.Closed f c = withoutItem f 0 (C.Refused 15)
+fedAs (T.Bad n) f c = withoutItem stoppedFeeder n (C.Refused 1)
+fedAs T.Unfinished f c = withoutItem (holding (gathered (bytesOf (f .held) ++ c))) (length c) C.UsedUp
+fedAs (T.Whole n) f c = wholeFed n (bytesOf (f .held) ++ take n c)
 
 unfoldable pub feedOf : Feeder → List ℕ → Fed
 feedOf f c = fedAs (takeOf f c) f c
@@ -92,7 +92,7 @@ resetOf f = record { feeder = newFeeder; count = cond (isClosed f) 0 (length (by
 
 -- an item or an answer 1, and its place: how many bytes of the run are used when it is given
 pub record Placed : Type 0 where
-  pub outcome : Outcome
+  pub completed : Completed
   pub bytes : Gathered
   pub place : ℕ
 
@@ -102,7 +102,7 @@ pub record Got : Type 0 where
   pub left : Feeder
 
 abbrev pub placed : Fed → ℕ → List Placed
-placed r p = record { outcome = r .outcome; bytes = r .bytes; place = p } ∷ []
+placed r p = record { completed = r .completed; bytes = r .bytes; place = p } ∷ []
 
 abbrev pub nothingBut : Feeder → Got
 nothingBut f = record { answers = []; left = f }
@@ -111,10 +111,10 @@ nothingBut f = record { answers = []; left = f }
 abbrev pub andThen : List Placed → Got → Got
 andThen before g = record { answers = before ++ g .answers; left = g .left }
 
-abbrev pub isAnswer : Outcome → Bool
-isAnswer (O.Item i a) = true
-isAnswer (O.Refused n) = eqb n 1
-isAnswer O.UsedUp = false
+abbrev pub isAnswer : Completed → Bool
+isAnswer (C.Item i a) = true
+isAnswer (C.Refused n) = eqb n 1
+isAnswer C.UsedUp = false
 
 -- a chunk that begins at place p of the run, "its rest offered again" after each answer, in n calls at most
 unfoldable pub offered : ℕ → Feeder → ℕ → List ℕ → Got
@@ -122,7 +122,7 @@ offered zero f p c = nothingBut f
 offered (suc n) f p c =
     let r = feedOf f c in
     let q = p + r .used in
-    cond (isAnswer (r .outcome))
+    cond (isAnswer (r .completed))
     (andThen (placed r q) (offered n (r .feeder) q (drop (r .used) c)))
     (nothingBut (r .feeder))
 
@@ -145,8 +145,8 @@ joined (c ∷ cs) = c ++ joined cs
 -- the run s begins at place p, and `next k` is what follows its first k bytes
 abbrev pub runAs : Framing → ℕ → List ℕ → (ℕ → Got) → Got
 runAs F.Short p s next = nothingBut (holding (gathered s))
-runAs F.Bad p s next = andThen (placed (withoutItem stoppedFeeder 2 (O.Refused 1)) (p + 2)) (nothingBut stoppedFeeder)
-runAs (F.Whole k) p s next = andThen (placed (completed k (take k s)) (p + k)) (next k)
+runAs F.Bad p s next = andThen (placed (withoutItem stoppedFeeder 2 (C.Refused 1)) (p + 2)) (nothingBut stoppedFeeder)
+runAs (F.Whole k) p s next = andThen (placed (wholeFed k (take k s)) (p + k)) (next k)
 
 -- in n turns at most
 unfoldable pub runFrom : ℕ → ℕ → List ℕ → Got

@@ -3,7 +3,7 @@ ghost use mathlib.Core.Path.{_≡_};
 ghost use mathlib.Core.List.{_++_, []};
 ghost use Prim.Native.Nat.{_+_, _≤_};
 ghost use lib.ListN.{length, getD};
-ghost use Rattle.forms.specs.Feeder.{gathered, holding, newFeeder, stoppedFeeder, begins, closedAs, takenAs, takeOf, withoutItem, completed, fedAs, feedOf, resetOf};
+ghost use Rattle.forms.specs.Feeder.{gathered, holding, newFeeder, stoppedFeeder, begins, closedAs, takenAs, takeOf, withoutItem, wholeFed, fedAs, feedOf, resetOf};
 use crate::bytes;
 use crate::framing;
 use crate::framing::Framing;
@@ -35,7 +35,8 @@ pub enum Taken {
     Whole(usize),
 }
 
-pub enum Outcome {
+// What the chunk completes.
+pub enum Completed {
     // The item, and the place of its digits or entries in its bytes.
     Item(Item, usize),
     // 1 or 15.
@@ -44,11 +45,11 @@ pub enum Outcome {
     UsedUp,
 }
 
-// The next feeder, how many bytes of the chunk were used, the outcome, and the bytes of the item that is handed out.
+// The next feeder, how many bytes of the chunk were used, what was completed, and the bytes of the item that is handed out.
 pub struct Fed {
     pub feeder: Feeder,
     pub used: usize,
-    pub outcome: Outcome,
+    pub completed: Completed,
     pub bytes: Gathered,
 }
 
@@ -157,15 +158,15 @@ pub fn take(f: Feeder, chunk: &[u8]) -> Taken
     }
 }
 
-// An outcome that hands out no item.
-fn without_item(feeder: Feeder, used: usize, outcome: Outcome) -> Fed
-    ensures { λ r. ⌜ r ≡ withoutItem feeder used outcome ⌝ }
+// Where no item is handed out.
+fn without_item(feeder: Feeder, used: usize, completed: Completed) -> Fed
+    ensures { λ r. ⌜ r ≡ withoutItem feeder used completed ⌝ }
 {
     let bytes = nothing();
     Fed {
         feeder,
         used,
-        outcome,
+        completed,
         bytes,
     }
 }
@@ -173,7 +174,7 @@ fn without_item(feeder: Feeder, used: usize, outcome: Outcome) -> Fed
 // The whole item that is the bytes h and c, one behind the other; n of them are the chunk's.
 fn complete(h: &[u8], c: &[u8], n: usize) -> Fed
     requires { ⌜ length (now h) + length (now c) ≤ 65 ⌝ }
-    ensures { λ r. ⌜ r ≡ completed n (now (h .entry) ++ now (c .entry)) ⌝ }
+    ensures { λ r. ⌜ r ≡ wholeFed n (now (h .entry) ++ now (c .entry)) ⌝ }
 {
     let g = join(h, c);
     let bytes = g.bytes;
@@ -183,10 +184,10 @@ fn complete(h: &[u8], c: &[u8], n: usize) -> Fed
         ReadItem::Item(i, at) => Fed {
             feeder,
             used: n,
-            outcome: Outcome::Item(i, at),
+            completed: Completed::Item(i, at),
             bytes: g,
         },
-        ReadItem::Refused(m) => without_item(feeder, n, Outcome::Refused(m)),
+        ReadItem::Refused(m) => without_item(feeder, n, Completed::Refused(m)),
     }
 }
 
@@ -199,9 +200,9 @@ fn feed_on(t: Taken, f: Feeder, chunk: &[u8]) -> Fed
     let bytes = g.bytes;
     let h = bytes::part_of(&bytes, 0, g.count);
     match t {
-        Taken::Closed => without_item(f, 0, Outcome::Refused(15)),
-        Taken::Bad(n) => without_item(stopped(), n, Outcome::Refused(1)),
-        Taken::Unfinished => without_item(hold(join(h, chunk)), chunk.len(), Outcome::UsedUp),
+        Taken::Closed => without_item(f, 0, Completed::Refused(15)),
+        Taken::Bad(n) => without_item(stopped(), n, Completed::Refused(1)),
+        Taken::Unfinished => without_item(hold(join(h, chunk)), chunk.len(), Completed::UsedUp),
         Taken::Whole(n) => complete(h, bytes::part_of(chunk, 0, n), n),
     }
 }

@@ -10,7 +10,7 @@ use Rattle.forms.specs.Units.{isPeriod, isTimer}
 use Rattle.forms.specs.Item.{itemOf, isItem, readItem, placed, readItemAt}
 use Rattle.forms.specs.Write.{writable, written}
 use Rattle.forms.specs.Profile.{profileOf, isProfile, readProfile}
-use Rattle.forms.specs.Feeder.{bytesOf, takeOf, completedAs, fedAs, feedOf as feederOf}
+use Rattle.forms.specs.Feeder.{bytesOf, takeOf, wholeFedAs, fedAs, feedOf as feederOf}
 use Rattle.forms.specs.declared.feeder.Feeder.{Feeder}
 use Rattle.forms.specs.declared.feeder.Taken.{Taken}
 use Rattle.forms.specs.declared.feeder.Taken.the-variants as taken
@@ -29,7 +29,7 @@ use Rattle.table.specs.Runs.{log, final}
 use Rattle.table.specs.Table.{goes, ends, unless, damage, fresh, tableStep, serve, setupAt, otherAt, place, store}
 use Rattle.table.specs.Entry.{ownedBy, blankEntry, ourSlots}
 use Rattle.table.specs.Feed.{itemIn, restIn, earlyOf, effectAs, ourCall, isSoundTable, feedStep, Turn, Feeds}
-use Rattle.table.specs.EntryPoints.{EntryPoint, period, timer, read-item, read-item-at, write-item, read-profile, feed-chunk, open-call, respond, step, feed, feed-sound, numbers, inPeriod, inTimer, inReadItem, inWritten, inReadProfile, inOutcome, inAnswer, refusal}
+use Rattle.table.specs.EntryPoints.{EntryPoint, period, timer, read-item, read-item-at, write-item, read-profile, feed-chunk, open-call, respond, step, feed, feed-sound, numbers, inPeriod, inTimer, inReadItem, inWritten, inReadProfile, inCompleted, inAnswer, refusal}
 use Rattle.table.specs.Demands.{Demand1, ownSlot, freeSlot, stored, firstRow, rows, slot, made, due, Demand2, Run, endOf, Started, ending, fed, line, Demand3, Demands}
 use Rattle.table.proofs.Ours.{item-fits, setup-opens, ours}
 
@@ -123,12 +123,12 @@ fed-among w t x ns e h =
     (one-of-more (numbersOn w) ns (feedStep t x .0) h (rw (ap (λ (d : Answer × List Entry). d .0) (right t x .0), ← e) (right t x .1)))
 
 -- an item that a chunk completes is read; else a stop is 1 and a closed feeder 15
-chunk-among : (k : Taken) (f : Feeder) (c : List ℕ) → Among (1 ∷ 15 ∷ []) (inOutcome (fedAs k f c .outcome))
+chunk-among : (k : Taken) (f : Feeder) (c : List ℕ) → Among (1 ∷ 15 ∷ []) (inCompleted (fedAs k f c .completed))
 unfolding readItem contains
 chunk-among taken.Closed f c = refl
 chunk-among (taken.Bad n) f c = refl
 chunk-among taken.Unfinished f c = refl
-chunk-among (taken.Whole n) f c = let s = bytesOf (f .held) ++ take n c in on-cond (λ x. Among (1 ∷ 15 ∷ []) (inOutcome (completedAs x n s .outcome))) (isItem (itemOf s) s) _ _ refl refl
+chunk-among (taken.Whole n) f c = let s = bytesOf (f .held) ++ take n c in on-cond (λ x. Among (1 ∷ 15 ∷ []) (inCompleted (wholeFedAs x n s .completed))) (isItem (itemOf s) s) _ _ refl refl
 
 each-among : (e : EntryPoint) → Among (numbers e) (refusal e)
 unfolding readItem readItemAt written readProfile feederOf all contains

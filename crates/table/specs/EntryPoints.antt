@@ -18,8 +18,8 @@ use Rattle.forms.specs.declared.write.Written.{Written}
 use Rattle.forms.specs.declared.write.Written.the-variants as W
 use Rattle.forms.specs.declared.profile.ReadProfile.the-variants as Q
 use Rattle.forms.specs.declared.feeder.Feeder.{Feeder}
-use Rattle.forms.specs.declared.feeder.Outcome.{Outcome}
-use Rattle.forms.specs.declared.feeder.Outcome.the-variants as O
+use Rattle.forms.specs.declared.feeder.Completed.{Completed}
+use Rattle.forms.specs.declared.feeder.Completed.the-variants as O
 use Rattle.call.specs.declared.answers.Answer.the-variants.{Accepted, Refused}
 use Rattle.call.specs.Setup.{openOf}
 use Rattle.call.specs.Step.{respondOf, stepOf}
@@ -83,10 +83,10 @@ abbrev pub inReadProfile : ReadProfile → Option ℕ
 inReadProfile (Q.Profile p) = none
 inReadProfile (Q.Refused n) = some n
 
-abbrev pub inOutcome : Outcome → Option ℕ
-inOutcome (O.Item i a) = none
-inOutcome (O.Refused n) = some n
-inOutcome O.UsedUp = none
+abbrev pub inCompleted : Completed → Option ℕ
+inCompleted (O.Item i a) = none
+inCompleted (O.Refused n) = some n
+inCompleted O.UsedUp = none
 
 abbrev pub inAnswer : Answer → Option ℕ
 inAnswer (Accepted o) = none
@@ -99,7 +99,7 @@ refusal (read-item s) = inReadItem (readItem s)
 refusal (read-item-at s a) = inReadItem (readItemAt s a)
 refusal (write-item i rest d) = inWritten (written i rest d)
 refusal (read-profile s) = inReadProfile (readProfile s)
-refusal (feed-chunk f c) = inOutcome (feederOf f c .outcome)
+refusal (feed-chunk f c) = inCompleted (feederOf f c .completed)
 refusal (open-call i rest s) = inAnswer (openOf i rest s .answer)
 refusal (respond r i rest) = inAnswer (respondOf r i rest .answer)
 refusal (step r i rest) = inAnswer (stepOf r i rest .answer)
