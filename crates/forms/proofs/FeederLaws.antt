@@ -1,13 +1,13 @@
 -- Laws of the framing and of the feeder, for the proofs of the functions and for the theorems.
-use Prim.Native.Nat.{ℕ, zero, suc, _+_, _-_, _≤_, _<_}
+use Prim.Native.Nat.{ℕ, _+_, _-_, _≤_, _<_}
 use mathlib.Core.Path.{_≡_, refl, sym, ap, _∙_, subst}
-use mathlib.Core.List.{List, [], _∷_, _++_}
+use mathlib.Core.List.{List, _++_}
 use mathlib.Core.Bool.{Bool, true, false, _||_, not, cond, false≢true}
 use mathlib.Core.Logic.{_⊎_, inl, inr}
 use native.Mathlib.Nat.{zero-add}
 use native.Mathlib.Omega.{arith}
 use borrow.Author.Tests.{ltb-true, ltb-false, leb-true, leb-false, le-ltb, le-leb}
-use lib.ListN.{length, take, drop, replicate, length-append, length-take, List·getD-append}
+use lib.ListN.{length, take, replicate, length-append, length-take, List·getD-append}
 use lib.Seq.{sets}
 use lib.Dec.{ltb, leb}
 use Rattle.forms.specs.Bytes.{fromBytes, pad, within}

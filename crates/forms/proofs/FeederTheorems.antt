@@ -3,15 +3,13 @@ use Prim.Native.Nat.{ℕ, zero, suc, _+_, _-_, _≤_, _<_}
 use mathlib.Core.Path.{_≡_, refl, sym, ap, _∙_}
 use mathlib.Core.List.{List, [], _∷_, _++_, append-assoc, append-nil}
 use mathlib.Core.Bool.{Bool, true, false, _&&_, cond, false≢true}
-use mathlib.Core.Logic.{_⊎_, inl, inr}
 use native.Mathlib.Nat.{add-zero}
 use native.Mathlib.Omega.{arith}
-use lib.ListN.{length, take, drop, length-append, length-drop, List·getD-append}
+use lib.ListN.{length, take, drop, length-append, length-drop}
 use lib.Seq.{take-append-seam, drop-append-seam, take-append-le, drop-append-le, take-append-add, drop-append-add}
-use Rattle.forms.specs.Bytes.{fromBytes, within}
-use Rattle.forms.specs.Framing.{framingOf, isShort}
+use Rattle.forms.specs.Framing.{framingOf}
 use Rattle.forms.specs.Item.{itemBytes, itemInRange, restAt, itemOf, isItem, readItem}
-use Rattle.forms.specs.Feeder.{bytesOf, gathered, holding, newFeeder, stoppedFeeder, begins, isClosed, takenAs, takeOf, withoutItem, wholeFed, wholeFedAs, fedAs, feedOf, resetOf, Placed, Got, nothingBut, andThen, isAnswer, placed, offered, chunkFed, chunksFed, joined, runAs, runFrom, runOf}
+use Rattle.forms.specs.Feeder.{bytesOf, gathered, holding, newFeeder, stoppedFeeder, begins, isClosed, takenAs, takeOf, wholeFed, wholeFedAs, fedAs, feedOf, resetOf, Placed, Got, nothingBut, andThen, isAnswer, placed, offered, chunkFed, chunksFed, joined, runAs, runFrom, runOf}
 use Rattle.forms.specs.declared.framing.Framing.{Framing}
 use Rattle.forms.specs.declared.framing.Framing.the-variants as F
 use Rattle.forms.specs.declared.item.Item.{Item}
@@ -25,7 +23,7 @@ use Rattle.forms.specs.declared.feeder.Fed.{Fed}
 use Rattle.forms.proofs.ByteLaws.{and-left, and-right, pad-front}
 use Rattle.forms.proofs.ItemTheorems.{read-back, item-framed}
 use Rattle.forms.proofs.FeederLaws.{told, more, before-bad, before-whole, Takes, takes}
-use borrow.Author.Tests.{le-ltb, le-leb, ltb-true}
+use borrow.Author.Tests.{ltb-true}
 use lib.Dec.{ltb}
 
 -- ---- one chunk

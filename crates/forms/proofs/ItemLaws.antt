@@ -1,17 +1,22 @@
 -- Laws of the item's written form, for the proofs of reading and writing and for the theorems.
-use Prim.Native.Nat.{ℕ, zero, suc, _+_, _*_, _≤_, _<_}
-use mathlib.Core.Path.{_≡_, refl, sym, ap, _∙_}
+use Prim.Native.Nat.{ℕ, _+_, _*_, _≤_, _<_}
+use mathlib.Core.Path.{_≡_, refl, sym, ap, _∙_, subst}
 use mathlib.Core.List.{List, [], _∷_, _++_}
 use mathlib.Core.Bool.{Bool, true, false, _&&_, cond, and-true, and-assoc}
 use native.Mathlib.Omega.{arith}
 use lib.ListN.{length, getD, take, drop, length-append, length-drop}
 use lib.Seq.{drop-drop, getD-drop}
 use lib.Dec.{leb, eqb, lit≤}
-use borrow.Author.Tests.{leb-true, eqb-true}
+use borrow.Author.Tests.{leb-true, eqb-true, ne-eqb}
+use denote.Enum.Declared.{tagOf}
+use types.Run.{OneOf, miss}
 use Rattle.forms.specs.Bytes.{toBytes, fromBytes, leads, same}
-use Rattle.forms.specs.Units.{isClockReading}
-use Rattle.forms.specs.Fields.{nature, mostDigits, isDigitCount, entryCount, allInRange, frame, framed}
-use Rattle.forms.specs.Item.{formOf, fieldBytes, restInRange, itemBytes, itemInRange, restAt, restOf, itemOf, isItem, readItem, headOf, fixedOf}
+use Rattle.forms.specs.Units.{longestPeriod, isPeriod, isClockReading}
+use Rattle.forms.specs.Fields.{nature, flag, mostDigits, isDigitCount, digitCount, legNumber, entryCount, allInRange, frame, framed}
+use Rattle.forms.specs.Item.{formOf, fieldBytes, restInRange, itemBytes, itemInRange, restAt, restOf, legOf, choose, bodyFrom, bodyOf, itemOf, isItem, readItem, headOf, fixedOf}
+use Rattle.forms.specs.declared.units.Tenths.{Tenths}
+use Rattle.forms.specs.declared.item.Leg.{Leg}
+use Rattle.forms.specs.declared.item.Leg.the-variants.{One, Two}
 use Rattle.forms.specs.declared.item.Body.{Body}
 use Rattle.forms.specs.declared.item.Body.the-variants as B
 use Rattle.forms.specs.declared.item.Rest.{Rest}
@@ -19,7 +24,8 @@ use Rattle.forms.specs.declared.item.Rest.the-variants.{Nothing, Digits,
 use Rattle.forms.specs.declared.item.Fixed.{Fixed}
 use Rattle.forms.specs.declared.item.Item.{Item}
 use Rattle.forms.specs.declared.item.ReadItem.the-variants as R
-use Rattle.forms.proofs.ByteLaws.{pad-front, picked, and-left, and-right, leads-both, leads-next, same-rest, same-true, framed-same, own-bytes}
+use Rattle.forms.proofs.item.Body.{the-type}
+use Rattle.forms.proofs.ByteLaws.{number-back, pad-front, picked, and-left, and-right, leads-both, leads-next, same-rest, same-true, framed-same, own-bytes}
 
 -- how many bytes follow the fields
 abbrev pub followed : Rest → ℕ
@@ -27,28 +33,78 @@ followed Nothing = 0
 followed (Digits c) = c
 followed (Entries c) = c * 5
 
--- the fields of every kind fit their five places; in range, with what follows they are at most 51 bytes
-abbrev Small : Body → Type 0
-Small b = (length (fieldBytes b) ≤ 5) × (allInRange (formOf b .fields) ≡ true → length (fieldBytes b) + followed (formOf b .rest) ≤ 51)
+-- what a flag and a leg are written as reads back
+flag-back : (f : Bool) → eqb (flag f) 1 ≡ f
+flag-back true = refl
+flag-back false = refl
 
-small : (b : Body) → Small b
-small (B.Setup n s f c) = (lit≤ tt, λ h. omega (arith, leb-true c mostDigits (and-right (leb 1 c) _ (and-left (isDigitCount c) true (and-right (nature n .inRange) _ h)))))
-small (B.RouteFailure c) = (lit≤ tt, λ h. lit≤ tt)
-small (B.Busy c) = (lit≤ tt, λ h. lit≤ tt)
-small B.NoAnswer = (lit≤ tt, λ h. lit≤ tt)
-small B.Seized = (lit≤ tt, λ h. lit≤ tt)
-small B.Answer = (lit≤ tt, λ h. lit≤ tt)
-small (B.MidCall d) = (lit≤ tt, λ h. lit≤ tt)
-small B.Moved = (lit≤ tt, λ h. lit≤ tt)
-small (B.Clear l c) = (lit≤ tt, λ h. lit≤ tt)
-small (B.PeriodOver l) = (lit≤ tt, λ h. lit≤ tt)
-small (B.RequestReport c) = (lit≤ tt, λ h. omega (arith, leb-true c 10 (and-right (leb 1 c) _ (and-left (entryCount c .inRange) true h))))
-small B.Continue = (lit≤ tt, λ h. lit≤ tt)
-small (B.Connect n c) = (lit≤ tt, λ h. omega (arith, leb-true c mostDigits (and-right (leb 1 c) _ (and-left (isDigitCount c) true (and-right (nature n .inRange) _ h)))))
-small B.Release = (lit≤ tt, λ h. lit≤ tt)
-small (B.ApplyCharging l p) = (lit≤ tt, λ h. lit≤ tt)
-small B.ActivityTest = (lit≤ tt, λ h. lit≤ tt)
-small B.Abort = (lit≤ tt, λ h. lit≤ tt)
+leg-back : (l : Leg) → legOf (eqb (legNumber l) 2) ≡ l
+leg-back One = refl
+leg-back Two = refl
+
+period-back : (p : Tenths) (t : List ℕ) → isPeriod p ≡ true → fromBytes 4 (toBytes 4 (p .0) ++ t) ≡ p .0
+period-back p t h = number-back 4 (p .0) t (omega (arith, leb-true (p .0) longestPeriod (and-right (leb 1 (p .0)) _ h)))
+
+-- all that is needed of a body's form, told of each body in turn; of the seventeen nothing else is proved one by one
+pub record Formed (b : Body) : Type 0 where
+  -- its fields fit their five places; in range, with what follows they are at most 51 bytes
+  pub short : length (fieldBytes b) ≤ 5
+  pub bounded : allInRange (formOf b .fields) ≡ true → length (fieldBytes b) + followed (formOf b .rest) ≤ 51
+  -- its bytes name its values
+  pub back : (t : List ℕ) → allInRange (formOf b .fields) ≡ true → bodyOf (formOf b .kind) (fieldBytes b ++ t) ≡ b
+  -- kind 1 is that of the first variant, Setup
+  pub first : eqb (formOf b .kind) 1 ≡ eqb (tagOf the-type b) 0
+
+-- a body that nothing follows
+alone : (b : Body) → length (fieldBytes b) + followed (formOf b .rest) ≤ 5
+    → ((t : List ℕ) → allInRange (formOf b .fields) ≡ true → bodyOf (formOf b .kind) (fieldBytes b ++ t) ≡ b)
+    → eqb (formOf b .kind) 1 ≡ eqb (tagOf the-type b) 0
+    → Formed b
+alone b s k e = record { short = omega arith; bounded = λ h. omega arith; back = k; first = e }
+
+numbered : (n c : ℕ) → (nature n .inRange && (digitCount c .inRange && true)) ≡ true → c ≤ mostDigits
+numbered n c h = leb-true c mostDigits (and-right (leb 1 c) _ (and-left (isDigitCount c) true (and-right (nature n .inRange) _ h)))
+
+pub formed : (b : Body) → Formed b
+unfolding bodyOf bodyFrom
+formed (B.Setup n s f c) = record { short = lit≤ tt; bounded = λ h. omega (arith, numbered n c h); back = λ t h. ap (λ x. B.Setup n s x c) (flag-back f); first = refl }
+formed (B.RouteFailure c) = alone (B.RouteFailure c) (lit≤ tt) (λ t h. refl) refl
+formed (B.Busy c) = alone (B.Busy c) (lit≤ tt) (λ t h. refl) refl
+formed B.NoAnswer = alone B.NoAnswer (lit≤ tt) (λ t h. refl) refl
+formed B.Seized = alone B.Seized (lit≤ tt) (λ t h. refl) refl
+formed B.Answer = alone B.Answer (lit≤ tt) (λ t h. refl) refl
+formed (B.MidCall d) = alone (B.MidCall d) (lit≤ tt) (λ t h. refl) refl
+formed B.Moved = alone B.Moved (lit≤ tt) (λ t h. refl) refl
+formed (B.Clear l c) = alone (B.Clear l c) (lit≤ tt) (λ t h. ap (λ x. B.Clear x c) (leg-back l)) refl
+formed (B.PeriodOver l) = alone (B.PeriodOver l) (lit≤ tt) (λ t h. ap B.PeriodOver (leg-back l)) refl
+formed (B.RequestReport c) = record { short = lit≤ tt; bounded = λ h. omega (arith, leb-true c 10 (and-right (leb 1 c) _ (and-left (entryCount c .inRange) true h))); back = λ t h. refl; first = refl }
+formed B.Continue = alone B.Continue (lit≤ tt) (λ t h. refl) refl
+formed (B.Connect n c) = record { short = lit≤ tt; bounded = λ h. omega (arith, numbered n c h); back = λ t h. refl; first = refl }
+formed B.Release = alone B.Release (lit≤ tt) (λ t h. refl) refl
+formed (B.ApplyCharging l p) = alone (B.ApplyCharging l p) (lit≤ tt) (λ t h. ap (λ x. B.ApplyCharging x (record { 0 = fromBytes 4 (toBytes 4 (p .0) ++ t) })) (leg-back l) ∙ ap (λ (n : ℕ). B.ApplyCharging l (record { 0 = n })) (period-back p t (and-left (isPeriod p) true h))) refl
+formed B.ActivityTest = alone B.ActivityTest (lit≤ tt) (λ t h. refl) refl
+formed B.Abort = alone B.Abort (lit≤ tt) (λ t h. refl) refl
+
+-- a body of another variant than the first is no Setup
+abbrev others : List ℕ
+others = 1 ∷ 2 ∷ 3 ∷ 4 ∷ 5 ∷ 6 ∷ 7 ∷ 8 ∷ 9 ∷ 10 ∷ 11 ∷ 12 ∷ 13 ∷ 14 ∷ 15 ∷ 16 ∷ []
+
+pub no-setup : (b : Body) → OneOf others (tagOf the-type b) → eqb (formOf b .kind) 1 ≡ false
+no-setup b h = formed b .first ∙ ne-eqb _ _ (λ (e : tagOf the-type b ≡ 0). miss others 0 tt (subst (OneOf others) e h))
+
+-- a number that is the kind of none of the bodies, as the last arm of a `match` says it, chooses none of them
+abbrev NoneOf : ℕ → Type 0 → List Body → Type 0
+NoneOf n before [] = before
+NoneOf n before (b ∷ bs) = NoneOf n (before × (n ≡ formOf b .kind → ⊥)) bs
+
+none-chosen : (n : ℕ) (before : Type 0) (bs : List Body) → NoneOf n before bs → (choose n bs ≡ B.Abort) × before
+none-chosen n before [] p = (refl, p)
+none-chosen n before (b ∷ bs) p =
+    let q = none-chosen n (before × (n ≡ formOf b .kind → ⊥)) bs p in
+    (rw (ne-eqb n (formOf b .kind) (q .1 .1)) (q .0), q .1 .0)
+
+pub no-kind : (n : ℕ) (bs : List Body) → NoneOf n (Unit {0}) bs → choose n bs ≡ B.Abort
+no-kind n bs p = none-chosen n (Unit {0}) bs p .0
 
 pub rest-size : (r : Rest) (t : List ℕ) → restInRange r t ≡ true → length t ≡ followed r
 rest-size Nothing t h = eqb-true _ _ h
@@ -60,10 +116,10 @@ unfolding itemInRange
 item-size i t h =
     let f = formOf (i .body) in
     let r = and-left (allInRange (f .fields) && restInRange (f .rest) t) (isClockReading (i .time)) h in
-    rw (rest-size (f .rest) t (and-right (allInRange (f .fields)) _ r)) (small (i .body) .1 (and-left (allInRange (f .fields)) (restInRange (f .rest) t) r))
+    rw (rest-size (f .rest) t (and-right (allInRange (f .fields)) _ r)) (formed (i .body) .bounded (and-left (allInRange (f .fields)) (restInRange (f .rest) t) r))
 
 pub fields-back : (b : Body) → take (fixedOf (formOf b) .len) (fixedOf (formOf b) .bytes) ≡ fieldBytes b
-fields-back b = pad-front 5 (fieldBytes b) (small b .0)
+fields-back b = pad-front 5 (fieldBytes b) (formed b .short)
 
 module _ (i : Item) (t : List ℕ) where
   -- an item's bytes are its first 14, its fields, and its digits or entries
@@ -154,4 +210,4 @@ reads s i n h =
 -- they begin within its first 19 bytes
 pub place-small : (s : List ℕ) (i : Item) (n : ℕ) → readItem s ≡ R.Item i n → n ≤ 19
 unfolding restAt
-place-small s i n h = let p : 14 + length (fieldBytes (i .body)) ≡ n = reads s i n h .place in omega (arith, small (i .body) .0)
+place-small s i n h = let p : 14 + length (fieldBytes (i .body)) ≡ n = reads s i n h .place in omega (arith, formed (i .body) .short)

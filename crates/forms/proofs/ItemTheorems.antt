@@ -1,60 +1,28 @@
 -- The theorems of the item form: what is written reads back the same; each item has one written form; an item is 14 to 65 bytes long; entries likewise.
 use Prim.Native.Nat.{ℕ, _+_, _/_, _%_, _^_, _≤_, _<_}
-use mathlib.Core.Path.{_≡_, refl, sym, ap, _∙_}
+use mathlib.Core.Path.{_≡_, sym, ap, _∙_}
 use mathlib.Core.List.{List, [], _∷_, _++_}
-use mathlib.Core.Bool.{true, false, _&&_}
+use mathlib.Core.Bool.{true, _&&_}
 use native.Mathlib.Omega.{arith}
-use borrow.Author.Tests.{leb-true, ltb-true, le-leb}
+use borrow.Author.Tests.{ltb-true, le-leb}
 use lib.ListN.{length, take, drop}
 use lib.Seq.{drop-at, take-append-seam}
 use lib.Dec.{leb, ltb}
 use Rattle.forms.specs.Bytes.{toBytes, fromBytes}
-use Rattle.forms.specs.Units.{clockEnd, isPeriod}
+use Rattle.forms.specs.Units.{clockEnd}
 use Rattle.forms.specs.Fields.{allInRange}
-use Rattle.forms.specs.Item.{formOf, fieldBytes, restInRange, itemBytes, itemInRange, restAt, restOf, bodyFrom, bodyOf, itemOf, isItem, readItem, entryBytes, entryOf, headOf}
+use Rattle.forms.specs.Item.{formOf, fieldBytes, restInRange, itemBytes, itemInRange, restAt, restOf, itemOf, isItem, readItem, entryBytes, entryOf, headOf}
 use Rattle.forms.specs.Framing.{itemFraming}
 use Rattle.forms.specs.Write.{writable, written, after}
 use Rattle.forms.specs.declared.framing.Framing.the-variants as F
-use Rattle.forms.specs.declared.units.Tenths.{Tenths}
-use Rattle.forms.specs.declared.item.Leg.the-variants.{One, Two}
-use Rattle.forms.specs.declared.item.Body.{Body}
-use Rattle.forms.specs.declared.item.Body.the-variants as B
 use Rattle.forms.specs.declared.item.Item.{Item}
 use Rattle.forms.specs.declared.item.Entry.{Entry}
 use Rattle.forms.specs.declared.item.ReadItem.the-variants as R
 use Rattle.forms.specs.declared.write.Written.the-variants as W
 use Rattle.forms.proofs.ByteLaws.{picked, and-left, and-right, number-back, same-self, framed-whole}
-use Rattle.forms.proofs.ItemLaws.{item-size, item-parts, item-length, reads}
+use Rattle.forms.proofs.ItemLaws.{formed, item-size, item-parts, item-length, reads}
 
 -- ---- what is written reads back the same
-
-period-back : (p : Tenths) (t : List ℕ) → isPeriod p ≡ true → fromBytes 4 (toBytes 4 (p .0) ++ t) ≡ p .0
-period-back p t h = number-back 4 (p .0) t (omega (arith, leb-true (p .0) 864000 (and-right (leb 1 (p .0)) _ h)))
-
--- each kind's bytes name its values
-body-back : (b : Body) (t : List ℕ) → allInRange (formOf b .fields) ≡ true → bodyOf (formOf b .kind) (fieldBytes b ++ t) ≡ b
-unfolding bodyOf bodyFrom
-body-back (B.Setup n s true c) t h = refl
-body-back (B.Setup n s false c) t h = refl
-body-back (B.RouteFailure c) t h = refl
-body-back (B.Busy c) t h = refl
-body-back B.NoAnswer t h = refl
-body-back B.Seized t h = refl
-body-back B.Answer t h = refl
-body-back (B.MidCall d) t h = refl
-body-back B.Moved t h = refl
-body-back (B.Clear One c) t h = refl
-body-back (B.Clear Two c) t h = refl
-body-back (B.PeriodOver One) t h = refl
-body-back (B.PeriodOver Two) t h = refl
-body-back (B.RequestReport c) t h = refl
-body-back B.Continue t h = refl
-body-back (B.Connect n c) t h = refl
-body-back B.Release t h = refl
-body-back (B.ApplyCharging One p) t h = ap (λ (x : ℕ). B.ApplyCharging One (record { 0 = x })) (period-back p t (and-left (isPeriod p) true h))
-body-back (B.ApplyCharging Two p) t h = ap (λ (x : ℕ). B.ApplyCharging Two (record { 0 = x })) (period-back p t (and-left (isPeriod p) true h))
-body-back B.ActivityTest t h = refl
-body-back B.Abort t h = refl
 
 module _ (i : Item) (t : List ℕ) (right : itemInRange i t ≡ true) (call : i .call < 256 ^ 4) where
   in-range : (allInRange (formOf (i .body) .fields) ≡ true) × (i .time .0 < clockEnd)
@@ -68,7 +36,7 @@ module _ (i : Item) (t : List ℕ) (right : itemInRange i t ≡ true) (call : i 
   unfolding itemOf itemBytes
   item-back =
       let b = fieldBytes (i .body) ++ t in
-      rw (number-back 4 (i .call) (toBytes 6 (i .time .0) ++ b) call, number-back 6 (i .time .0) b (in-range .1), body-back (i .body) t (in-range .0))
+      rw (number-back 4 (i .call) (toBytes 6 (i .time .0) ++ b) call, number-back 6 (i .time .0) b (in-range .1), formed (i .body) .back t (in-range .0))
 
   rest-back : restOf (i .body) (itemBytes i t) ≡ t
   unfolding restAt

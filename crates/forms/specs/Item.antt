@@ -83,14 +83,16 @@ abbrev pub choose : ℕ → List Body → Body
 choose n [] = B.Abort
 choose n (b ∷ bs) = cond (eqb n (formOf b .kind)) b (choose n bs)
 
--- the body of the kind n whose values the bytes are: b0 to b3 are its first, l the leg that b0 stands for, p the number from b1 on
-unfoldable pub bodyFrom : ℕ → ℕ → ℕ → ℕ → ℕ → Leg → ℕ → Body
-bodyFrom n b0 b1 b2 b3 l p =
-    choose n
-    (B.Setup b0 b1 (eqb b2 1) b3
+-- the bodies whose values the bytes are, one of each kind but Abort: b0 to b3 are the first bytes, l the leg that b0 stands for, p the number from b1 on
+abbrev pub bodiesFrom : ℕ → ℕ → ℕ → ℕ → Leg → ℕ → List Body
+bodiesFrom b0 b1 b2 b3 l p =
+    B.Setup b0 b1 (eqb b2 1) b3
     ∷ B.RouteFailure b0 ∷ B.Busy b0 ∷ B.NoAnswer ∷ B.Seized ∷ B.Answer ∷ B.MidCall b0 ∷ B.Moved ∷ B.Clear l b1 ∷ B.PeriodOver l
     ∷ B.RequestReport b0 ∷ B.Continue ∷ B.Connect b0 b1 ∷ B.Release ∷ B.ApplyCharging l (record { 0 = p }) ∷ B.ActivityTest
-    ∷ [])
+    ∷ []
+
+unfoldable pub bodyFrom : ℕ → ℕ → ℕ → ℕ → ℕ → Leg → ℕ → Body
+bodyFrom n b0 b1 b2 b3 l p = choose n (bodiesFrom b0 b1 b2 b3 l p)
 
 unfoldable pub bodyOf : ℕ → List ℕ → Body
 bodyOf n b = bodyFrom n (getD b 0 0) (getD b 1 0) (getD b 2 0) (getD b 3 0) (legOf (eqb (getD b 0 0) 2)) (fromBytes 4 (drop 1 b))

@@ -4,10 +4,11 @@ ghost use mathlib.Core.List.{[], _∷_};
 ghost use mathlib.Core.Bool.{true, _&&_};
 ghost use Prim.Native.Nat.{_+_, _*_, _≤_};
 ghost use lib.ListN.{length, drop};
+ghost use lib.Dec.{eqb};
 ghost use Rattle.forms.specs.Bytes.{toBytes};
 ghost use Rattle.forms.specs.Units.{isClockReading};
 ghost use Rattle.forms.specs.Fields.{legNumber};
-ghost use Rattle.forms.specs.Item.{formOf, restInRange, legOf, bodyFrom, callIn, itemOf, itemInRange, isItem, readItem, readItemAt, entryOf, readEntry, fixed, fixedOf};
+ghost use Rattle.forms.specs.Item.{formOf, restInRange, legOf, bodyFrom, bodyOf, callIn, itemOf, itemInRange, isItem, readItem, readItemAt, entryOf, readEntry, fixed, fixedOf};
 use crate::bytes;
 use crate::fields;
 use crate::units::Seconds;
@@ -188,6 +189,16 @@ pub(crate) fn fixed_of(body: Body) -> Fixed
     }
 }
 
+// A Setup alone has the kind 1.
+pub fn is_setup(body: Body) -> bool
+    ensures { λ r. ⌜ r ≡ eqb (formOf body .kind) 1 ⌝ }
+{
+    match body {
+        Body::Setup(_, _, _, _) => true,
+        _ => false,
+    }
+}
+
 // The body of the kind n: b0 to b3 are its first bytes, `leg` is the leg that b0 stands for, `p` the number from b1 on.
 // A number that no kind has gives an Abort, whose row has the kind 26: the bytes are not it.
 fn body_from(n: u8, b0: u8, b1: u8, b2: u8, b3: u8, leg: Leg, p: u64) -> Body
@@ -214,6 +225,23 @@ fn body_from(n: u8, b0: u8, b1: u8, b2: u8, b3: u8, leg: Leg, p: u64) -> Body
     }
 }
 
+// The body of the kind n whose bytes are b, whatever they are.
+fn body_of(n: u8, b: &[u8]) -> Body
+    ensures { λ r. ⌜ r ≡ bodyOf n (now (b .entry)) ⌝ }
+{
+    let b0 = bytes::at(b, 0);
+    let p = bytes::number4(bytes::from(b, 1)) as u64;
+    body_from(
+        n,
+        b0,
+        bytes::at(b, 1),
+        bytes::at(b, 2),
+        bytes::at(b, 3),
+        leg_of(b0 == 2),
+        p,
+    )
+}
+
 // The call's number, whatever the bytes are.
 pub fn call_in(s: &[u8]) -> u32
     ensures { λ r. ⌜ r ≡ callIn (now (s .entry)) ⌝ }
@@ -225,17 +253,7 @@ pub fn call_in(s: &[u8]) -> u32
 fn item_of(s: &[u8]) -> Item
     ensures { λ r. ⌜ r ≡ itemOf (now (s .entry)) ⌝ }
 {
-    let b = bytes::from(s, 14);
-    let b0 = bytes::at(b, 0);
-    let body = body_from(
-        bytes::at(s, 3),
-        b0,
-        bytes::at(b, 1),
-        bytes::at(b, 2),
-        bytes::at(b, 3),
-        leg_of(b0 == 2),
-        bytes::number4(bytes::from(b, 1)) as u64,
-    );
+    let body = body_of(bytes::at(s, 3), bytes::from(s, 14));
     Item {
         call: call_in(s),
         time: Tenths(bytes::number6(bytes::from(s, 8)) as u64),

@@ -1,5 +1,7 @@
-use borrow.Author.Tests.{ne-eqb}
-use Rattle.forms.specs.Item.{bodyFrom}
+-- `forms::item::body_from` meets its contract: a number that is none of the keys is the kind of none of the bodies.
+use mathlib.Core.Path.{sym}
+use Rattle.forms.specs.Item.{bodiesFrom, bodyFrom}
+use Rattle.forms.proofs.ItemLaws.{no-kind}
 use Rattle.forms.proofs.item.body_from.Statement.{statement}
 use Rattle.forms.proofs.item.body_from.Tie as tie
 
@@ -24,4 +26,4 @@ body-from-spec =
     (λ c. rw (c .match .keys14))
     (λ c. rw (c .match .keys15))
     (λ c. rw (c .match .keys16))
-    (λ c. let r = c .match .rest in simp (ne-eqb _ _ (r .1), ne-eqb _ _ (r .0 .1), ne-eqb _ _ (r .0 .0 .1), ne-eqb _ _ (r .0 .0 .0 .1), ne-eqb _ _ (r .0 .0 .0 .0 .1), ne-eqb _ _ (r .0 .0 .0 .0 .0 .1), ne-eqb _ _ (r .0 .0 .0 .0 .0 .0 .1), ne-eqb _ _ (r .0 .0 .0 .0 .0 .0 .0 .1), ne-eqb _ _ (r .0 .0 .0 .0 .0 .0 .0 .0 .1), ne-eqb _ _ (r .0 .0 .0 .0 .0 .0 .0 .0 .0 .1), ne-eqb _ _ (r .0 .0 .0 .0 .0 .0 .0 .0 .0 .0 .1), ne-eqb _ _ (r .0 .0 .0 .0 .0 .0 .0 .0 .0 .0 .0 .1), ne-eqb _ _ (r .0 .0 .0 .0 .0 .0 .0 .0 .0 .0 .0 .0 .1), ne-eqb _ _ (r .0 .0 .0 .0 .0 .0 .0 .0 .0 .0 .0 .0 .0 .1), ne-eqb _ _ (r .0 .0 .0 .0 .0 .0 .0 .0 .0 .0 .0 .0 .0 .0 .1), ne-eqb _ _ (r .0 .0 .0 .0 .0 .0 .0 .0 .0 .0 .0 .0 .0 .0 .0 .1))))
+    (λ c. let a = c .before .args in sym (no-kind (a .n) (bodiesFrom (a .b0) (a .b1) (a .b2) (a .b3) (a .leg) (a .p)) (c .match .rest))))
