@@ -1,4 +1,4 @@
--- `forms::bytes::at` meets its contract.
+-- `forms::bytes::at` meets its contract: past the end the default is given.
 use borrow.Author.Needs.{needs}
 use mathlib.Core.Path.{sym}
 use lib.ListN.{List·getD-eq-default}

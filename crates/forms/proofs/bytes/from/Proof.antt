@@ -1,4 +1,4 @@
--- `forms::bytes::from` meets its contract.
+-- `forms::bytes::from` meets its contract: past the end nothing is left.
 use borrow.Author.Needs.{needs}
 use native.Mathlib.Nat.{le-of-lt, le-of-eq}
 use lib.ListN.{length-drop, drop-of-length-le}

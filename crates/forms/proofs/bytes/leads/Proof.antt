@@ -1,4 +1,4 @@
--- `forms::bytes::leads` meets its contract.
+-- `forms::bytes::leads` meets its contract: the bytes from `i` on decide the answer.
 use borrow.Author.Needs.{needs}
 use Prim.Native.Nat.{_≤_, _-_}
 use mathlib.Core.Path.{_≡_, sym, _∙_}

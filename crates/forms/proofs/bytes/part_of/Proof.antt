@@ -1,4 +1,4 @@
--- `forms::bytes::part_of` meets its contract.
+-- `forms::bytes::part_of` meets its contract: where fewer bytes are left, all of them are taken.
 use borrow.Author.Needs.{needs}
 use native.Mathlib.Nat.{le-of-lt}
 use mathlib.Core.Path.{sym}

@@ -1,4 +1,4 @@
--- `forms::feeder::begin` meets its contract.
+-- `forms::feeder::begin` meets its contract: the first two bytes are found in either run, and so is the length of both.
 use borrow.Author.Needs.{needs}
 use Prim.Native.Nat.{_+_, _*_}
 use mathlib.Core.Path.{_≡_, ap}

@@ -1,4 +1,4 @@
--- `forms::feeder::byte_at` meets its contract.
+-- `forms::feeder::byte_at` meets its contract: past the first run the place is counted in the second.
 use borrow.Author.Needs.{needs}
 use mathlib.Core.Path.{_≡_, sym, ap, _∙_}
 use Prim.Native.Nat.{ℕ, _+_, _-_}

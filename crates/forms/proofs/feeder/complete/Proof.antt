@@ -1,4 +1,4 @@
--- `forms::feeder::complete` meets its contract.
+-- `forms::feeder::complete` meets its contract: the bytes that are read are the two runs, one behind the other.
 use borrow.Author.Needs.{needs}
 use Prim.Native.Nat.{ℕ, _+_, _≤_}
 use mathlib.Core.Path.{_≡_, ap, _∙_}

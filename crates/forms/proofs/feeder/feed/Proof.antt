@@ -1,4 +1,4 @@
--- `forms::feeder::feed` meets its contract.
+-- `forms::feeder::feed` meets its contract: what is taken is what it goes on with.
 use borrow.Author.Needs.{needs}
 use Rattle.forms.specs.Feeder.{feedOf}
 use Rattle.forms.proofs.feeder.feed.Statement.{statement}

@@ -1,4 +1,4 @@
--- `forms::feeder::feed_on` meets its contract.
+-- `forms::feeder::feed_on` meets its contract: an arm for each of what can be taken; what is joined has room.
 use borrow.Author.Needs.{needs}
 use Rattle.forms.specs.declared.feeder.Taken.the-variants as T
 use Rattle.forms.proofs.FeederLaws.{takes-as}

@@ -1,4 +1,4 @@
--- `forms::feeder::is_closed` meets its contract.
+-- `forms::feeder::is_closed` meets its contract: what the held bytes begin with decides, where the feeder is not stopped.
 use borrow.Author.Needs.{needs}
 use Rattle.forms.proofs.feeder.is_closed.Statement.{statement}
 use Rattle.forms.proofs.feeder.is_closed.Tie as tie
@@ -8,4 +8,4 @@ is-closed-spec =
     tie.close
     (tie.spec
     (λ c κs. search needs) (λ c κs. search needs) (λ c κs. search needs)
-    (λ c. rw (c .is-short .ensures, c .before .of-item .ensures, c .before .before .number2 .ensures .0)))
+    (λ c. cc))

@@ -1,4 +1,4 @@
--- `forms::feeder::join` meets its contract.
+-- `forms::feeder::join` meets its contract: the second run is stored where the first ends, in zeros.
 use borrow.Author.Needs.{needs}
 use lib.ListN.{length-append}
 use Rattle.forms.proofs.FeederLaws.{pad-both}

@@ -1,4 +1,4 @@
--- `forms::feeder::new` meets its contract.
+-- `forms::feeder::new` meets its contract: it holds no bytes.
 use borrow.Author.Needs.{needs}
 use Rattle.forms.proofs.feeder.new.Statement.{statement}
 use Rattle.forms.proofs.feeder.new.Tie as tie

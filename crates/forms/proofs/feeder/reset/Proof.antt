@@ -1,4 +1,4 @@
--- `forms::feeder::reset` meets its contract.
+-- `forms::feeder::reset` meets its contract: the bytes held are counted, where the feeder is not closed.
 use borrow.Author.Needs.{needs}
 use Rattle.forms.specs.Feeder.{isClosed, resetOf}
 use Rattle.forms.proofs.feeder.reset.Statement.{statement}

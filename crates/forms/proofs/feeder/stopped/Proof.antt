@@ -1,4 +1,4 @@
--- `forms::feeder::stopped` meets its contract.
+-- `forms::feeder::stopped` meets its contract: it holds no bytes.
 use borrow.Author.Needs.{needs}
 use Rattle.forms.proofs.feeder.stopped.Statement.{statement}
 use Rattle.forms.proofs.feeder.stopped.Tie as tie

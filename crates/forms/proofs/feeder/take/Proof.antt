@@ -1,4 +1,4 @@
--- `forms::feeder::take` meets its contract.
+-- `forms::feeder::take` meets its contract: closed, or what the two runs begin with.
 use borrow.Author.Needs.{needs}
 use Rattle.forms.specs.Feeder.{isClosed, takeOf}
 use Rattle.forms.proofs.feeder.take.Statement.{statement}

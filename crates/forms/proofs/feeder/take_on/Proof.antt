@@ -1,4 +1,4 @@
--- `forms::feeder::take_on` meets its contract.
+-- `forms::feeder::take_on` meets its contract: an arm for each of what a run begins with.
 use borrow.Author.Needs.{needs}
 use Rattle.forms.proofs.feeder.take_on.Statement.{statement}
 use Rattle.forms.proofs.feeder.take_on.Tie as tie

@@ -1,4 +1,4 @@
--- `forms::feeder::without_item` meets its contract.
+-- `forms::feeder::without_item` meets its contract: no bytes go with it.
 use borrow.Author.Needs.{needs}
 use Rattle.forms.proofs.feeder.without_item.Statement.{statement}
 use Rattle.forms.proofs.feeder.without_item.Tie as tie

@@ -1,3 +1,4 @@
+-- `forms::item::entry_of` meets its contract: each value is taken from its place.
 use Rattle.forms.specs.Item.{entryOf}
 use borrow.Author.Needs.{needs}
 use Rattle.forms.proofs.item.entry_of.Statement.{statement}
@@ -9,4 +10,4 @@ entry-of-spec =
     tie.close
     (tie.spec
     (λ c κs. search needs) (λ c κs. search needs) (λ c κs. search needs) (λ c κs. search needs) (λ c κs. search needs) (λ c. search needs)
-    (λ c. rw (c .number2 .ensures .0, c .before .from .ensures, c .before .before .at3 .ensures, c .before .before .before .at2 .ensures, c .before .before .before .before .at .ensures)))
+    (λ c. cc))

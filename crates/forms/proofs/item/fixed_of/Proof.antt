@@ -1,3 +1,4 @@
+-- `forms::item::fixed_of` meets its contract: an arm for each row of the table of kinds.
 use borrow.Author.Needs.{needs}
 use mathlib.Core.Bool.{and-true}
 use Rattle.forms.proofs.item.fixed_of.Statement.{statement}

@@ -1,3 +1,4 @@
+-- `forms::item::in_range` meets its contract: the item's own row is the one that is tested.
 use borrow.Author.Needs.{needs}
 use Rattle.forms.specs.Item.{itemInRange}
 use Rattle.forms.proofs.item.in_range.Statement.{statement}

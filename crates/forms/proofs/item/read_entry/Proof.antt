@@ -1,3 +1,4 @@
+-- `forms::item::read_entry` meets its contract: five bytes that are left are an entry, and the place after them is no further than the end.
 use borrow.Author.Needs.{needs}
 use borrow.Author.Tests.{le-leb, lt-leb}
 use mathlib.Core.Path.{ap}

@@ -1,4 +1,4 @@
--- `forms::item::read_item` meets its contract.
+-- `forms::item::read_item` meets its contract: fewer than 14 bytes are no item; of more, the test decides.
 use borrow.Author.Needs.{needs}
 use mathlib.Core.Path.{sym}
 use Rattle.forms.specs.Item.{readItem}

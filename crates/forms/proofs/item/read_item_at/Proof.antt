@@ -1,3 +1,4 @@
+-- `forms::item::read_item_at` meets its contract: past the end there are too few bytes for an item; a place in the bytes stays small.
 use borrow.Author.Needs.{needs}
 use mathlib.Core.Path.{sym, _∙_}
 use native.Mathlib.Nat.{le-of-lt}

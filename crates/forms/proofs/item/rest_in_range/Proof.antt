@@ -1,3 +1,4 @@
+-- `forms::item::rest_in_range` meets its contract: an arm for each of what can follow.
 use borrow.Author.Needs.{needs}
 use Rattle.forms.proofs.item.rest_in_range.Statement.{statement}
 use Rattle.forms.proofs.item.rest_in_range.Tie as tie

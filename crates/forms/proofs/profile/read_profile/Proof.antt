@@ -1,4 +1,4 @@
--- `forms::profile::read_profile` meets its contract.
+-- `forms::profile::read_profile` meets its contract: the walk over the numbers gives the view its place and the test its answer.
 use borrow.Author.Needs.{needs}
 use mathlib.Core.Path.{_∙_, ap}
 use Rattle.forms.specs.Profile.{viewAt, readProfile}

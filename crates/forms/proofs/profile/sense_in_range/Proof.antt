@@ -1,3 +1,4 @@
+-- `forms::profile::sense_in_range` meets its contract: an arm for each sense.
 use borrow.Author.Needs.{needs}
 use Rattle.forms.proofs.profile.sense_in_range.Statement.{statement}
 use Rattle.forms.proofs.profile.sense_in_range.Tie as tie

@@ -1,3 +1,4 @@
+-- `forms::write::put_parts` meets its contract: three runs stored one behind the other are one.
 use borrow.Author.Needs.{needs}
 use Rattle.forms.proofs.WriteLaws.{parts}
 use Rattle.forms.proofs.write.put_parts.Statement.{statement}

@@ -1,3 +1,4 @@
+-- `forms::units::Tenths::period` meets its contract: the test is the definition's.
 use borrow.Author.Needs.{needs}
 use Rattle.forms.proofs.units.Tenths.period.Statement.{statement}
 use Rattle.forms.proofs.units.Tenths.period.Tie as tie
