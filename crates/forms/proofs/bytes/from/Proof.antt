@@ -6,13 +6,9 @@ use lib.Seq.{take-all}
 use Rattle.forms.proofs.bytes.from.Statement.{statement}
 use Rattle.forms.proofs.bytes.from.Tie as tie
 
-returns : tie.Need-returns
-returns c = let a = c .before .before .args in take-all _ _ (le-of-eq (length-drop (a .a) (a .s .now)))
-
-returns-2 : tie.Need-returns-2
-returns-2 c = rw (drop-of-length-le _ (le-of-lt (c .before .if1 .left)))
-
 pub from-spec : {M : Type 1} → statement M
 from-spec =
     tie.close
-    (tie.spec (λ c. search needs) (λ c. search needs) (λ c. search needs) (λ c. search needs) returns returns-2)
+    (tie.spec
+    (λ c. search needs) (λ c. search needs) (λ c. search needs) (λ c. search needs)
+    (λ c. let a = c .before .before .args in take-all _ _ (le-of-eq (length-drop (a .a) (a .s .now)))) (λ c. rw (drop-of-length-le _ (le-of-lt (c .before .if1 .left)))))

@@ -6,20 +6,9 @@ use lib.Seq.{length-take-le, take-all}
 use Rattle.forms.proofs.bytes.part_of.Statement.{statement}
 use Rattle.forms.proofs.bytes.part_of.Tie as tie
 
-slice-aggregate-result : tie.Need-slice-aggregate-result
-slice-aggregate-result c = sym (length-take-le _ _ (c .before .if1 .taken))
-
-returns : tie.Need-returns
-returns c = rw (c .before .before .from .ensures)
-
-returns-2 : tie.Need-returns-2
-returns-2 c = rw (← c .before .from .ensures) (sym (take-all _ _ (le-of-lt (c .if1 .left))))
-
 pub part-of-spec : {M : Type 1} → statement M
 part-of-spec =
     tie.close
     (tie.spec
-    (λ c κs. search needs)
-    slice-aggregate-result
-    returns
-    returns-2)
+    (λ c κs. search needs) (λ c. sym (length-take-le _ _ (c .before .if1 .taken))) (λ c. rw (c .before .before .from .ensures))
+    (λ c. rw (← c .before .from .ensures) (sym (take-all _ _ (le-of-lt (c .if1 .left))))))

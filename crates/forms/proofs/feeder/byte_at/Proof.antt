@@ -9,9 +9,6 @@ use lib.Seq.{getD-append-add}
 use Rattle.forms.proofs.feeder.byte_at.Statement.{statement}
 use Rattle.forms.proofs.feeder.byte_at.Tie as tie
 
-returns : tie.Need-returns
-returns c = let a = c .before .before .before .before .args in sym (List·getD-append (a .h .now) (a .c .now) 0 (a .i) (search needs))
-
 returns-2 : tie.Need-returns-2
 returns-2 c =
     let a = c .before .before .before .before .args in
@@ -21,4 +18,8 @@ returns-2 c =
     rw (c .at .ensures) (sym (getD-append-add h s (a .i - length h) 0) ∙ ap (λ (k : ℕ). getD (h ++ s) k 0) e)
 
 pub byte-at-spec : {M : Type 1} → statement M
-byte-at-spec = tie.close (tie.spec (λ c. search needs) (λ c. search needs) (λ c κs. search needs) returns returns-2)
+byte-at-spec =
+    tie.close
+    (tie.spec
+    (λ c. search needs) (λ c. search needs) (λ c κs. search needs)
+    (λ c. let a = c .before .before .before .before .args in sym (List·getD-append (a .h .now) (a .c .now) 0 (a .i) (search needs))) returns-2)

@@ -15,28 +15,13 @@ complete-requires c κs =
     let a = c .before .before .before .before .before .before .before .before .before in
     rw (c .part-of2 .ensures, c .before .before .before .before .part-of .ensures) (takes-as (a .args .f) (a .args .chunk .now) (a .pre) (T.Whole _) (c .before .before .t2 .given .1) .2)
 
-returns : tie.Need-returns
-returns c = rw (c .without-item .ensures, c .before .enum-told .given .1)
-
-returns-2 : tie.Need-returns-2
-returns-2 c = rw (c .without-item2 .ensures, c .before .stopped .ensures, c .before .before .before .t .given .1)
-
-returns-3 : tie.Need-returns-3
-returns-3 c = rw (c .without-item3 .ensures, c .before .hold .ensures, c .before .before .join .ensures, c .before .before .before .enum-told2 .given .1, c .before .before .before .before .before .part-of .ensures)
-
-returns-4 : tie.Need-returns-4
-returns-4 c = rw (c .complete .ensures, c .before .part-of2 .ensures, c .before .before .before .t2 .given .1, c .before .before .before .before .before .part-of .ensures)
-
 pub feed-on-spec : {M : Type 1} → statement M
 feed-on-spec =
     tie.close
     (tie.spec
     (λ c. search needs) (λ c κs. search needs) (λ c. search needs) (λ c κs. search needs) (λ c. search needs) (λ c κs. search needs) (λ c κs. search needs)
-    (λ c. search needs)
-    join-requires
-    (λ c κs. search needs) (λ c κs. search needs) (λ c. search needs) (λ c κs. search needs)
-    complete-requires
-    returns
-    returns-2
-    returns-3
-    returns-4)
+    (λ c. search needs) join-requires (λ c κs. search needs) (λ c κs. search needs) (λ c. search needs) (λ c κs. search needs) complete-requires
+    (λ c. rw (c .without-item .ensures, c .before .enum-told .given .1))
+    (λ c. rw (c .without-item2 .ensures, c .before .stopped .ensures, c .before .before .before .t .given .1))
+    (λ c. rw (c .without-item3 .ensures, c .before .hold .ensures, c .before .before .join .ensures, c .before .before .before .enum-told2 .given .1, c .before .before .before .before .before .part-of .ensures))
+    (λ c. rw (c .complete .ensures, c .before .part-of2 .ensures, c .before .before .before .t2 .given .1, c .before .before .before .before .before .part-of .ensures)))

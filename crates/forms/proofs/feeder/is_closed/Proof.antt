@@ -4,8 +4,4 @@ use Rattle.forms.proofs.feeder.is_closed.Statement.{statement}
 use Rattle.forms.proofs.feeder.is_closed.Tie as tie
 
 pub is-closed-spec : {M : Type 1} → statement M
-is-closed-spec =
-    tie.close
-    (tie.spec
-    (λ c κs. search needs) (λ c κs. search needs) (λ c κs. search needs)
-    (λ c. cc))
+is-closed-spec = tie.close (tie.spec (λ c κs. search needs) (λ c κs. search needs) (λ c κs. search needs) (λ c. cc))

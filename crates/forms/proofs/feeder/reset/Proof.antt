@@ -4,10 +4,6 @@ use Rattle.forms.specs.Feeder.{isClosed, resetOf}
 use Rattle.forms.proofs.feeder.reset.Statement.{statement}
 use Rattle.forms.proofs.feeder.reset.Tie as tie
 
-returns : tie.Need-returns
-unfolding resetOf isClosed
-returns c = rw (c .before .before .new .ensures, ← rw (c .before .before .before .part-of .ensures) at (c .before .is-closed .ensures), c .if1 .taken)
-
 returns-2 : tie.Need-returns-2
 unfolding resetOf isClosed
 returns-2 c =
@@ -15,9 +11,9 @@ returns-2 c =
     rw (c .before .before .new .ensures, ← rw p at (c .before .is-closed .ensures), c .if1 .left, p)
 
 pub reset-spec : {M : Type 1} → statement M
+unfolding resetOf isClosed
 reset-spec =
     tie.close
     (tie.spec
     (λ c. search needs) (λ c κs. search needs) (λ c κs. search needs) (λ c κs. search needs)
-    returns
-    returns-2)
+    (λ c. rw (c .before .before .new .ensures, ← rw (c .before .before .before .part-of .ensures) at (c .before .is-closed .ensures), c .if1 .taken)) returns-2)

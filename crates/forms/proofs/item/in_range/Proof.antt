@@ -6,7 +6,4 @@ use Rattle.forms.proofs.item.in_range.Tie as tie
 
 pub in-range-spec : {M : Type 1} → statement M
 unfolding itemInRange
-in-range-spec =
-    tie.close
-    (tie.spec
-    (λ c κs. search needs) (λ c κs. search needs) (λ c. rw (c .item-in-range .ensures, c .before .fixed-of .ensures)))
+in-range-spec = tie.close (tie.spec (λ c κs. search needs) (λ c κs. search needs) (λ c. rw (c .item-in-range .ensures, c .before .fixed-of .ensures)))

@@ -8,18 +8,17 @@ use Rattle.forms.specs.Item.{readEntry}
 use Rattle.forms.proofs.item.read_entry.Statement.{statement}
 use Rattle.forms.proofs.item.read_entry.Tie as tie
 
-add-next : tie.Need-add-t8
-add-next c = record { fits = omega (arith, c .before .if1 .taken, simp length-drop at (ap length (c .before .before .from .ensures))) }
-
 returns : tie.Need-returns
 unfolding readEntry
 returns c =
     let f = c .before .before .from .ensures in
     rw (c .entry-of .ensures, ← f, le-leb _ _ (c .before .if1 .taken))
 
-returns-2 : tie.Need-returns-2
-unfolding readEntry
-returns-2 c = rw (← c .before .from .ensures, lt-leb _ _ (c .if1 .left))
-
 pub read-entry-spec : {M : Type 1} → statement M
-read-entry-spec = tie.close (tie.spec (λ c κs. search needs) (λ c κs. search needs) add-next returns returns-2)
+unfolding readEntry
+read-entry-spec =
+    tie.close
+    (tie.spec
+    (λ c κs. search needs) (λ c κs. search needs)
+    (λ c. record { fits = omega (arith, c .before .if1 .taken, simp length-drop at (ap length (c .before .before .from .ensures))) }) returns
+    (λ c. rw (← c .before .from .ensures, lt-leb _ _ (c .if1 .left))))

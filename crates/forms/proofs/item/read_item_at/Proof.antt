@@ -11,25 +11,16 @@ use Rattle.forms.proofs.ItemLaws.{read-short, place-small}
 use Rattle.forms.proofs.item.read_item_at.Statement.{statement}
 use Rattle.forms.proofs.item.read_item_at.Tie as tie
 
-returns : tie.Need-returns
-unfolding readItemAt
-returns c = rw (drop-of-length-le _ (le-of-lt (c .if1 .taken)), read-short [] (lit< tt))
-
 add-place : tie.Need-add-t11
 add-place c =
     let small = place-small _ _ _ (sym (c .before .before .before .read-item .ensures) ∙ c .before .r .given .1) in
     record { fits = omega (arith, small, c .before .before .before .before .before .if1 .left) }
 
-returns-2 : tie.Need-returns-2
-unfolding readItemAt
-returns-2 c = rw (← c .before .before .before .before .from .ensures, ← c .before .before .before .read-item .ensures, c .before .r .given .1)
-
-returns-3 : tie.Need-returns-3
-unfolding readItemAt
-returns-3 c = rw (← c .before .before .before .before .from .ensures, ← c .before .before .before .read-item .ensures, c .before .r2 .given .1)
-
 pub read-item-at-spec : {M : Type 1} → statement M
+unfolding readItemAt
 read-item-at-spec =
     tie.close
     (tie.spec
-    returns (λ c κs. search needs) (λ c κs. search needs) (λ c. search needs) add-place (λ c. search needs) returns-2 returns-3)
+    (λ c. rw (drop-of-length-le _ (le-of-lt (c .if1 .taken)), read-short [] (lit< tt))) (λ c κs. search needs) (λ c κs. search needs) (λ c. search needs) add-place
+    (λ c. search needs) (λ c. rw (← c .before .before .before .before .from .ensures, ← c .before .before .before .read-item .ensures, c .before .r .given .1))
+    (λ c. rw (← c .before .before .before .before .from .ensures, ← c .before .before .before .read-item .ensures, c .before .r2 .given .1)))

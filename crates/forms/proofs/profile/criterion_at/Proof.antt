@@ -4,7 +4,4 @@ use Rattle.forms.proofs.profile.criterion_at.Statement.{statement}
 use Rattle.forms.proofs.profile.criterion_at.Tie as tie
 
 pub criterion-at-spec : {M : Type 1} → statement M
-criterion-at-spec =
-    tie.close
-    (tie.spec
-    (λ c κs. search needs) (λ c κs. search needs) (λ c. cc))
+criterion-at-spec = tie.close (tie.spec (λ c κs. search needs) (λ c κs. search needs) (λ c. cc))

@@ -5,11 +5,9 @@ use Rattle.forms.proofs.ComparisonLaws.{as-before}
 use Rattle.forms.proofs.profile.match_at.Statement.{statement}
 use Rattle.forms.proofs.profile.match_at.Tie as tie
 
-returns : tie.Need-returns
-returns c = rw (← c .before .at .ensures, ne-eqb _ _ (c .if1 .taken))
-
-returns-2 : tie.Need-returns-2
-returns-2 c = rw (c .compare .ensures, as-before, c .before .list-at .ensures, ← c .before .before .before .at .ensures, eq-eqb _ _ (c .before .before .if1 .left))
-
 pub match-at-spec : {M : Type 1} → statement M
-match-at-spec = tie.close (tie.spec (λ c κs. search needs) returns (λ c. search needs) (λ c κs. search needs) (λ c κs. search needs) returns-2)
+match-at-spec =
+    tie.close
+    (tie.spec
+    (λ c κs. search needs) (λ c. rw (← c .before .at .ensures, ne-eqb _ _ (c .if1 .taken))) (λ c. search needs) (λ c κs. search needs) (λ c κs. search needs)
+    (λ c. rw (c .compare .ensures, as-before, c .before .list-at .ensures, ← c .before .before .before .at .ensures, eq-eqb _ _ (c .before .before .if1 .left))))

@@ -10,13 +10,11 @@ is-profile-requires c κs =
     let w = c .before .walk-numbers .ensures .0 in
     ((c .view-at .ensures .0 ∙ ap (viewAt _) (w .1), w .0), c .view-at .ensures .1 .1)
 
-returns : tie.Need-returns
-unfolding readProfile
-returns c = rw (← c .before .is-profile .ensures, c .if1 .taken, c .before .before .view-at .ensures .0, c .before .before .before .walk-numbers .ensures .0 .1)
-
-returns-2 : tie.Need-returns-2
-unfolding readProfile
-returns-2 c = rw (← c .before .is-profile .ensures, c .if1 .left)
-
 pub read-profile-spec : {M : Type 1} → statement M
-read-profile-spec = tie.close (tie.spec (λ c κs. search needs) (λ c κs. search needs) is-profile-requires returns returns-2)
+unfolding readProfile
+read-profile-spec =
+    tie.close
+    (tie.spec
+    (λ c κs. search needs) (λ c κs. search needs) is-profile-requires
+    (λ c. rw (← c .before .is-profile .ensures, c .if1 .taken, c .before .before .view-at .ensures .0, c .before .before .before .walk-numbers .ensures .0 .1))
+    (λ c. rw (← c .before .is-profile .ensures, c .if1 .left)))

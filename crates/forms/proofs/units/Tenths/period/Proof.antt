@@ -7,6 +7,4 @@ pub period-spec : {M : Type 1} → statement M
 period-spec =
     tie.close
     (tie.spec
-    (λ c κs. search needs)
-    (λ c. rw (← c .before .is-period .ensures, c .if1 .taken))
-    (λ c. rw (← c .before .is-period .ensures, c .if1 .left)))
+    (λ c κs. search needs) (λ c. rw (← c .before .is-period .ensures, c .if1 .taken)) (λ c. rw (← c .before .is-period .ensures, c .if1 .left)))
