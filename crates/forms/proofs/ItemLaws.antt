@@ -45,7 +45,7 @@ leg-back Two = refl
 period-back : (p : Tenths) (t : List ℕ) → isPeriod p ≡ true → fromBytes 4 (toBytes 4 (p .0) ++ t) ≡ p .0
 period-back p t h = number-back 4 (p .0) t (omega (arith, leb-true (p .0) longestPeriod (and-right (leb 1 (p .0)) _ h)))
 
--- all that is needed of a body's form, told of each body in turn; of the seventeen nothing else is proved one by one
+-- what the laws and the theorems need of a body's form: only here do they take the seventeen bodies one by one
 pub record Formed (b : Body) : Type 0 where
   -- its fields fit their five places; in range, with what follows they are at most 51 bytes
   pub short : length (fieldBytes b) ≤ 5

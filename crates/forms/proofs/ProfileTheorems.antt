@@ -13,7 +13,7 @@ use Rattle.forms.specs.Units.{isDefaultTimer}
 use Rattle.forms.specs.Fields.{nature, mostDigits, isDigitCount, isDigit, bytesIn, allInRange}
 use Rattle.forms.specs.Framing.{profileFraming}
 use Rattle.forms.specs.declared.framing.Framing.the-variants as F
-use Rattle.forms.specs.Profile.{Number, Profile, handlingNumber, criterionNumber, numberFields, listFields, fieldsOf, profileBytes, senseInRange, profileInRange, handlingOf, criterionOf, listAt, listEnd, numbersAt, numbersEnd, viewAt, viewOf, profileOf, isProfile, readProfile}
+use Rattle.forms.specs.Profile.{Number, Profile, isRelease, handlingNumber, criterionNumber, numberFields, listFields, fieldsOf, profileBytes, senseInRange, profileInRange, handlingOf, criterionOf, listAt, listEnd, numbersAt, numbersEnd, viewAt, viewOf, profileOf, isProfile, readProfile}
 use Rattle.forms.specs.declared.profile.Handling.{Handling}
 use Rattle.forms.specs.declared.profile.Handling.the-variants as H
 use Rattle.forms.specs.declared.profile.Criterion.{Criterion}
@@ -28,6 +28,11 @@ use Rattle.forms.proofs.ProfileLaws.{bytes-both, in-range-both, head-at
 handling-back : (h : Handling) → handlingOf (eqb (handlingNumber h) 1) ≡ h
 handling-back H.Continue = refl
 handling-back H.Release = refl
+
+-- to release is the handling that is written 1
+pub release-number : (h : Handling) → isRelease h ≡ eqb (handlingNumber h) 1
+release-number H.Continue = refl
+release-number H.Release = refl
 
 criterion-back : (c : Criterion) → criterionOf (eqb (criterionNumber c) 1) (eqb (criterionNumber c) 2) ≡ c
 criterion-back C.Absent = refl
