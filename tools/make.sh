@@ -1,35 +1,32 @@
 #!/bin/sh
-# The derivations of the functions over the lent table (proofs/Lent.antt, proofs/Lent/, proofs/**/Proof/), made from tools/surrogate/ by tools/transplant.py.
-#   tools/make.sh           writes them into crates/
+# The derivations of the functions over the lent table (proofs/Lent.antt, proofs/Lent/, proofs/**/Proof/), made from the source by tools/transplant.py.
+#   tools/make.sh           writes them into crates/, and for a new function a Proof.antt to start from
 #   tools/make.sh --check   makes them elsewhere, and fails where those in crates/ differ
 cd "$(dirname "$0")/.." || exit 2
+case $#,${1-} in
+0,) check=0 ;;
+1,--check) check=1 ;;
+*) echo "usage: tools/make.sh [--check]" >&2; exit 2 ;;
+esac
 made=$(mktemp -d) || exit 2
 trap 'rm -rf "$made"' EXIT
-S=tools/surrogate
 cp crates.txt "$made"
-# transplant CRATE SURROGATES.. WORDS..: the made files of one crate.
-transplant() {
-    crate=$1
-    shift
-    (cd $S && python3 ../transplant.py "$made/crates/$crate" common "$@")
-}
-transplant table of_table --elem u64x17=Elem --lent lookup/first_of,lookup/locate,check/is_sound,feed/feed_sound,feed/feed &&
-    transplant listing of_programs of_listing --elem u64x17=table.Elem --plain run --lent-in table:feed/feed_sound &&
-    transplant tables of_programs of_tables --elem u64x17=table.Elem --plain answer_case --lent-in table:feed/feed &&
-    transplant bench of_programs of_bench --elem u64x17=table.Elem --plain run --lent-in table:feed/feed,feed/feed_sound &&
-    (cd "$made" && rt fmt) || exit 1
+python3 tools/transplant.py table::entry::Entry "$made/crates" && (cd "$made" && rt fmt) || exit 1
 made_in() { (cd "$1" && find crates -path '*/Proof/*.antt' -o -path '*/Lent/*.antt' -o -name Lent.antt) | sort; }
-files=$(made_in "$made")
-differ=0
-if [ "${1-}" = --check ] && [ "$(made_in .)" != "$files" ]; then
-    echo "other files are made than there are"
-    differ=1
+if [ $check -eq 0 ]; then
+    cp -R "$made/crates" .
+    for f in $(made_in .); do
+        [ -e "$made/$f" ] || { head -n 1 "$f" | grep -q 'Made by tools/transplant.py' && rm "$f" && echo "$f is made no longer: removed"; }
+    done
+    exit 0
 fi
-for f in $files; do
-    if [ "${1-}" = --check ]; then
-        cmp "$made/$f" "$f" || differ=1
-    else
-        mkdir -p "$(dirname "$f")" && cp "$made/$f" "$f"
+made_in . > "$made/present"
+made_in "$made" > "$made/wanted"
+differ=0
+for f in $(sort -u "$made/present" "$made/wanted"); do
+    if ! cmp -s "$made/$f" "$f"; then
+        echo "$f is not what is made of the source: run tools/make.sh"
+        differ=1
     fi
 done
 exit $differ

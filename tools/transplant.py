@@ -1,26 +1,19 @@
 #!/usr/bin/env python3
 """Proofs of functions over a lent slice of structs, `&[Entry]` and `&mut [Entry]`, which Rattle's borrow checker does not cover.
 
-    transplant.py CRATE SURROGATE.. --elem u64x17=Elem --lent F,G,.. --plain H,.. [--lent-in DEP:F,G]
+    transplant.py CRATE::MODULE::STRUCT FOLDER     from the top of the repository; writes FOLDER/NAME/proofs/.. for each crate NAME that has such functions
 
-A SURROGATE is a folder with crates.txt and NAME/*.surrogate, the code of each crate as far as these functions need it (no .rt: rt refuses
-an .rt file of no crate); several are laid one over the other. In it the struct is an array of integers of the same size and alignment, as
-[u64; 17] for an entry of 136 bytes aligned to 8. Rattle covers its functions, and generates a derivation of each. This tool takes those
-derivations, puts the struct's own row (Elem.antt, written by hand) for the array's, and writes them as modules of CRATE's proofs, shortened
-by shorten.py. antt checks them there: they rest on the same rules of the logic, which hold at any Copy type.
+surrogate.py says which functions these are, and makes the crates in which the struct is an array of integers of the same size and alignment.
+Rattle covers the functions there, and generates a derivation of each. This tool takes those derivations, puts the struct's own row (Elem.antt of
+the struct's crate, written by hand) for the array's, and writes them as modules of the crate's proofs, shortened by shorten.py. antt checks
+them there: they rest on the same rules of the logic, which hold at any Copy type.
 
-    --elem    the array that stands for the struct, and the module of its row: Elem of CRATE itself, or DEP.Elem of a library
-    --lent    the functions whose signature has a lent slice of the struct, as `lookup/locate` for `lookup::locate`
-    --plain   those that have one in their body alone (Rattle makes their Kinds and Reads)
-    --lent-in those of a library that CRATE depends on
-    A function G_0 of the surrogate stands for G: a stub that a caller there calls, so that it does not wait for G's proof.
-
-Written, for each function F:   proofs/F/Proof/Lts.antt, proofs/F/Proof/Tie.antt;   for --lent also proofs/Lent/F_Kinds.antt, F_Reads.antt;
-                                proofs/Lent.antt;   and proofs/F/Proof.antt, with a hole for each need, where there is none yet.
+Written, for each function F:   proofs/F/Proof/Lts.antt, proofs/F/Proof/Tie.antt;   for a lent one also proofs/Lent/F_Kinds.antt, F_Reads.antt;
+                                proofs/Lent.antt;   and proofs/F/Proof.antt, with a hole for each need, where crates/ has none.
 """
-import argparse, os, re, shutil, subprocess, sys, tempfile
+import os, re, subprocess, sys, tempfile
 sys.dont_write_bytecode = True      # no __pycache__ in the repository
-import shorten
+import shorten, surrogate
 
 ATOM = r"(?:\((?:[^()]|\((?:[^()]|\([^()]*\))*\))*\)|[^() ]+)"
 STUB = re.compile(r"([a-z])[_-]0\b")
@@ -33,15 +26,15 @@ def dots(f): return f.replace('/', '.')
 def colons(f): return f.replace('/', '::')
 
 class Struct:
-    """The struct that is put for an array of integers: u64x17=Elem, or u64x17=DEP.Elem."""
-    def __init__(self, spec):
-        array, module = spec.split('=')
-        ty, self.n = array.split('x')
-        self.width, self.home, self.name = 'w' + ty[1:], module.rpartition('.')[0], module.rpartition('.')[2]
+    """The struct that is put for an array of integers, as (u64, 17): its row is Elem of the crate `home`."""
+    name = 'Elem'
+
+    def __init__(self, array, home):
+        self.width, self.n, self.home = 'w' + array[0][1:], array[1], home
 
     def beside(self, crate):
         """Where the modules stand that are written by hand for the made ones, as that of its row."""
-        return f'Rattle.{self.home}.proofs' if self.home else f'Rattle.{crate}.proofs'
+        return f'Rattle.{self.home}.proofs' if crate != self.home else f'Rattle.{crate}.proofs'
 
     def rules(self):
         """What is put for what: the array's row, its MIR type, its kinds, and the steps that hold of an array in a local."""
@@ -130,15 +123,15 @@ class Made:
         return self.modules('\n'.join(need + ['']) + t)
 
     def write(self, f, dst, text):
-        dst = f'{self.folder}/proofs/{dst}.antt'
-        os.makedirs(os.path.dirname(dst), exist_ok=True)
-        open(dst, 'w').write(f'-- Made by tools/transplant.py of the derivation that Rattle generates for the surrogate of `{self.crate}::{colons(f)}`: not written by hand.\n' + text)
-        print(dst, text.count('\n') + 1, 'lines,', len(text) // 1000, 'kB')
+        dst = f'proofs/{dst}.antt'
+        os.makedirs(os.path.dirname(f'{self.folder}/{dst}'), exist_ok=True)
+        open(f'{self.folder}/{dst}', 'w').write(f'-- Made by tools/transplant.py of the derivation that Rattle generates for the surrogate of `{self.crate}::{colons(f)}`: not written by hand.\n' + text)
+        print(f'crates/{self.crate}/{dst}', text.count('\n') + 1, 'lines,', len(text) // 1000, 'kB')
 
-    def function(self, root, f):
+    def function(self, root, f, said):
         """All that is made of one function, from the modules below root."""
         for m in ('Tie', 'Lts'):
-            if not os.path.exists(f'{root}/{f}/{m}.antt'): sys.exit(f'{f}: no {m}: it calls what the surrogate does not prove: give it a stub, G_0')
+            if not os.path.exists(f'{root}/{f}/{m}.antt'): sys.exit(f'{self.crate}::{colons(f)}: Rattle derives no {m} of its surrogate (python3 tools/surrogate.py writes it); it says:\n{said}')
         if f in self.lent:
             self.write(f, f'Lent/{flat(f)}_Kinds', shorten.kinds(self.text(f'{root}/{f}/Kinds.antt'), self.struct.beside(self.crate)))
             self.write(f, f'Lent/{flat(f)}_Reads', shorten.reads(self.text(f'{root}/{f}/Reads.antt')))
@@ -155,7 +148,6 @@ class Made:
     def start(self, f, printed):
         """The file to start from: what the check of the surrogate prints, or `search needs` at each need where the search closes them all there."""
         dst = f'{self.folder}/proofs/{f}/Proof.antt'
-        if os.path.exists(dst): return
         P = f'use Rattle.{self.crate}.proofs.{dots(f)}.'
         if printed:
             t = STUB.sub(r"\1", re.sub(r'^    ', '', printed, flags=re.M))
@@ -169,37 +161,37 @@ class Made:
             fn = f.split('/')[-1].replace('_', '-')
             t += f'pub {fn}-spec : {{M : Type 1}} → statement M\n{fn}-spec = tie.close (tie.spec {" ".join(ns)})\n'
         open(dst, 'w').write(f'-- `{self.crate}::{colons(f)}` meets its contract. Assumes nothing.\nmod Lts\nmod Tie\n' + t)
-        print(dst, 'NEW: fill its holes')
+        print(f'crates/{self.crate}/proofs/{f}/Proof.antt', 'NEW: fill its holes')
 
-def derive(surrogates, crate, tmp):
-    """The folder of the modules that Rattle generates for the surrogate, made in tmp, and what its check prints to start each proof from.
+def derive(repository, crate, starts):
+    """The folder of the modules that Rattle generates for the surrogate, what it says, and, where asked, the text to start each proof from.
     The surrogate is a crate of the same name, so that the names of types and functions are the same."""
-    for folder in surrogates:
-        for where, _, files in os.walk(folder):
-            for x in files:
-                to = tmp if x == 'crates.txt' else f'{tmp}/crates/{os.path.basename(where)}/src'
-                os.makedirs(to, exist_ok=True)
-                shutil.copy(f'{where}/{x}', f'{to}/{x}' if x == 'crates.txt' else f'{to}/{x.rsplit(".", 1)[0]}.rt')
-    env = dict(os.environ, RT_CUT='0', RT_JOBS='1')
-    asks = lambda *w: subprocess.run(['rt', *w], capture_output=True, text=True, cwd=tmp, env=env)
-    says, dev = asks('check', crate), asks('dev', crate, '--generated', f'{tmp}/generated')
-    root = f'{tmp}/generated/Rattle.{crate}.proofs/proofs'
-    if not os.path.isdir(root): sys.exit(dev.stdout + dev.stderr)
-    return root, dict(re.findall(r'^help: write \S*/proofs/(\S+)/Proof\.antt with these lines.*\n((?:    .*\n)+)', says.stdout + says.stderr, re.M))
+    def asks(*words):
+        done = subprocess.run(['rt', *words], capture_output=True, text=True, cwd=repository, env=dict(os.environ, RT_CUT='0', RT_JOBS='1'))
+        return done.stdout + done.stderr
+    said = asks('dev', crate, '--generated', f'{repository}/generated')
+    root = f'{repository}/generated/Rattle.{crate}.proofs/proofs'
+    if not os.path.isdir(root): sys.exit(f'{crate}: Rattle refuses its surrogate (python3 tools/surrogate.py writes it):\n{said}')
+    printed = asks('check', crate) if starts else ''
+    return root, said, dict(re.findall(r'^help: write \S*/proofs/(\S+)/Proof\.antt with these lines.*\n((?:    .*\n)+)', printed, re.M))
 
 def main():
-    ap = argparse.ArgumentParser(description=__doc__, formatter_class=argparse.RawDescriptionHelpFormatter)
-    ap.add_argument('crate'); ap.add_argument('surrogate', nargs='+'); ap.add_argument('--elem', required=True)
-    ap.add_argument('--lent', default=''); ap.add_argument('--plain', default=''); ap.add_argument('--lent-in', action='append', default=[])
-    a = ap.parse_args()
-    names = lambda s: [x for x in s.split(',') if x]
-    lent, far = names(a.lent), [(d, f) for x in a.lent_in for d, fs in [x.split(':')] for f in names(fs)]
-    made = Made(a.crate, Struct(a.elem), lent, far)
-    with tempfile.TemporaryDirectory() as tmp:
-        root, printed = derive(a.surrogate, made.crate, tmp)
-        for f in lent + names(a.plain):
-            made.function(root, f)
-            made.start(f, printed.get(f))
+    if len(sys.argv) != 3: sys.exit(__doc__)
+    source = surrogate.Source(sys.argv[1])
+    array, home = source.array(), source.struct.module.crate
+    print(f'{sys.argv[1]} is {array[1]} {array[0]}')
+    for crate in source.deps:
+        stands = surrogate.Surrogate(source, crate, array)
+        if not stands.made: continue
+        far = [(f.module.crate, f.path) for f in source.lent if f.module.crate != crate]
+        made = Made(f'{sys.argv[2]}/{crate}', Struct(array, home), [f.path for f in stands.lent], far)
+        new = [f.path for f in stands.made if not os.path.exists(f'crates/{crate}/proofs/{f.path}/Proof.antt')]
+        with tempfile.TemporaryDirectory() as tmp:
+            stands.write(tmp)
+            root, said, printed = derive(tmp, crate, new)
+            for f in stands.made:
+                made.function(root, f.path, said)
+                if f.path in new: made.start(f.path, printed.get(f.path))
         made.list_lent()
 
 if __name__ == '__main__': main()
