@@ -1,20 +1,20 @@
 """The surrogate of a crate, made from crates/*/src: its functions over a lent slice of one struct, with an array of integers for the struct.
 
 Rattle's borrow checker covers a lent slice of arrays and none of structs, so transplant.py lets it derive the functions of the surrogate.
-Which these are, the source tells: `lent` is a function with a parameter `&[Entry]` or `&mut [Entry]`, and `plain` one that calls a lent one
-and is none. In the surrogate
-    a made function (lent or plain) of the crate has the body that it has in the source, but calls another made one, G, as G_0, so as not to wait for its proof;
+Which these are, the source tells: a function is lent where a parameter is `&[Entry]` or `&mut [Entry]`, and plain where it calls a lent one
+and is not lent itself; their derivations are made. In the surrogate
+    a made function of the crate stands as in the source, but calls another made one, G, as G_0, so as not to wait for its proof;
     a function that these call is a stub: it has the same signature and answers any value;
-    a contract has as many clauses, each of which says nothing: what is said there is for the proofs, and the derivation does not look at it;
-    a type has its name, its kind and its module, and its fields too where a made function looks at them; a constant is as in the source.
-The array has the struct's size and alignment (Source.array), as `rt mir` tells them of the struct and all that is in it.
+    a contract has as many clauses, each of which says nothing: the derivation looks at their number alone;
+    a type has its name, its kind and its module, and its fields only where a made function looks at them; a constant is as in the source.
+The array has the struct's size and alignment (Source.array), as `rt mir` tells them of the struct with all that is in it.
 The source is read as `rt fmt` lays it out; what is not understood is said with its file and line, and ends the run.
 
     surrogate.py CRATE::MODULE::STRUCT FOLDER     writes each crate's surrogate to FOLDER/CRATE, to look at
 """
 import os, re, subprocess, sys, tempfile
 
-HEAD = re.compile(r"(?P<vis>pub(?:\(\w+\))? )?(?P<kind>fn|struct|enum|const) (?P<name>\w+)(?P<of><[^()]*?>)?")
+HEAD = re.compile(r"(?P<vis>(?:#\[.*\]\n)*(?:pub(?:\(\w+\))? )?(?:extern \"C\" )?)(?P<kind>fn|struct|enum|const) (?P<name>\w+)(?P<of><[^()]*?>)?")
 USE = re.compile(r"(?:pub )?use ((?:\w+::)*)(\w+|\*)(?: as (\w+))?;")
 PATH = re.compile(r"(?<![\w:'.])[A-Za-z_]\w*(?:::\w+)*|(?<=\.\.)[A-Za-z_]\w*(?:::\w+)*")
 INTEGER = r"[iu](?:8|16|32|64|size)"
@@ -45,7 +45,7 @@ class Item:
     """A declaration of the source, without its comments."""
     def __init__(self, module, line, text):
         self.module, self.line, self.text, self.head = module, line, text, HEAD.match(text)
-        self.kind, self.name, self.vis = self.head['kind'], self.head['name'], self.head['vis'] or ''
+        self.kind, self.name, self.vis = self.head['kind'], self.head['name'], self.head['vis']
         self.path = f'{module.name}/{self.name}' if module.name else self.name          # as below proofs/
 
     def fail(self, what): sys.exit(f'{self.module.file}:{self.line}: {self.name}: {what}')
@@ -57,7 +57,7 @@ class Item:
         e = close(self.text, i)
         params = [tuple(p.split(': ', 1)) for p in parts(self.text[i + 1:e - 1])]
         if any(len(p) != 2 for p in params): self.fail('expected "NAME: TYPE" for each parameter')
-        m = re.compile(r"(?: -> ([^{]*?))?\s*(?=\{|requires|ensures)").match(self.text, e)
+        m = re.compile(r"(?: -> ([^{\n]*?))?\s*(?=\{|requires|ensures)").match(self.text, e)
         clauses, i = [], m.end() if m else e
         while c := re.compile(r"(requires|ensures) (?=\{)").match(self.text, i):
             e = close(self.text, c.end())
@@ -93,12 +93,14 @@ class Module:
             use = USE.fullmatch(line)
             if use: self.uses.append((line, use[1].split('::')[:-1], use[2], use[3] or use[2]))
             if use or not line or re.fullmatch(r"ghost use .*;|(pub )?mod \w+;", line): continue
-            if not re.match(r"impl\b", line) and not HEAD.match(line): sys.exit(f'{file}:{at + 1}: expected a declaration, found "{line}"')
-            while not ends(i - 1, i - 1 == at):
-                if i == len(lines): sys.exit(f'{file}:{at + 1}: expected the end of this declaration, "}}" at the start of a line')
+            while lines[i - 1].startswith('#['): i += 1
+            first = i - 1
+            if not re.match(r"impl\b", lines[first]) and not HEAD.match(lines[first]): sys.exit(f'{file}:{i}: expected a declaration, found "{lines[first]}"')
+            while not ends(i - 1, i - 1 == first):
+                if i == len(lines): sys.exit(f'{file}:{first + 1}: expected the end of this declaration, "}}" at the start of a line')
                 i += 1
-            if HEAD.match(line):
-                item = Item(self, at + 1, '\n'.join(l for l in lines[at:i] if l))
+            if HEAD.match(lines[first]):
+                item = Item(self, first + 1, '\n'.join(l for l in lines[at:i] if l))
                 self.items[item.name] = item
 
 class Source:
@@ -154,7 +156,7 @@ class Source:
     def declared(self, item, name, put):
         """A type's declaration, with `put` for each that it names."""
         def fields(bracket, fs): return bracketed(bracket, ', '.join(x + self.types(item, t, put) for x, t in fs))
-        if item.kind == 'const': return self.types(item, item.text, lambda x, path: path if x is item else put(x, path))
+        if item.kind == 'const': return item.head[0] + self.types(item, item.text[item.head.end():], put)
         if item.kind == 'enum': return f'{item.vis}enum {name} {{ ' + ', '.join(v + fields(b, fs) for v, b, fs in item.shape()) + ' }'
         return f'{item.vis}struct {name}' + fields(*item.shape()) + (';' if item.shape()[0] == '(' else '')
 
@@ -219,15 +221,19 @@ class Surrogate:
         def one(m):
             if body.count('"', 0, m.start()) % 2 or not (re.search(r"\b[A-Z]", m[0]) or body[m.end()] == '('): return m[0]
             found = self.source.find(f, m[0])
-            if not found or found.kind != 'fn': return self.put(found, m[0]) if found else m[0]
+            if not found: return m[0]
+            member = re.search(r"\b[A-Z]\w*::(\w+)$", m[0])
+            if member and not (found.kind == 'enum' and member[1] in [v for v, _, _ in found.shape()]): f.fail(f'{m[0]} is no variant, and is not understood: call a function')
+            if found.kind != 'fn': return self.put(found, m[0])
             suffix = '_0' if found in self.made else ''
+            if suffix and not found.name[-1].isalpha(): found.fail('the stub for a made function that another calls, as NAME_0, needs a name that ends in a letter')
             self.stub(found, found.name + suffix)
             return m[0] + suffix
         self.texts[f, f.name] = f'{self.header(f, f.name)}\n{PATH.sub(one, body)}'
 
     def stub(self, f, name):
         params, result, _, _ = f.function()
-        same = [x for x, t in params if t == result]
+        same = [x.split()[-1] for x, t in params if t == result]
         value = same[0] if same else self.value(f, f, result) if result else ''
         self.texts[f, name] = f'{self.header(f, name)}\n{{\n    {value}\n}}'
 
@@ -258,9 +264,10 @@ class Surrogate:
         write(f'{folder}/crates.txt', [f"{c}: {' '.join(d for d in self.source.deps[c] if d in crates or d not in self.source.deps)}" for c in self.source.deps if c in crates])
         for m in texts:
             ghost = [f'ghost use {x};' for x in ('mathlib.Core.Path.{_≡_}', 'mathlib.Core.Bool.{true}')]
-            mods = [f'pub mod {n.name};' for n in texts if n.crate == m.crate and n.name] if not m.name else []
+            program = m.file.endswith('/main.rt')
+            mods = [f'{"" if program else "pub "}mod {n.name};' for n in texts if n.crate == m.crate and n.name] if not m.name else []
             uses = [line for line, base, name, alias in m.uses if self.is_used(m, base + [name], alias, texts)]
-            main = ['fn main() {}'] if m.file.endswith('/main.rt') else []
+            main = ['fn main() {}'] if program and not (m.items['main'], 'main') in self.texts else []
             write(f'{folder}/{m.file}', ghost + mods + uses + texts[m] + main)
 
     def is_used(self, module, path, alias, texts):
