@@ -14,9 +14,14 @@ cp crates.txt "$made"
 python3 tools/transplant.py table::entry::Entry "$made/crates" && (cd "$made" && rt fmt) || exit 1
 made_in() { (cd "$1" && find crates -path '*/Proof/*.antt' -o -path '*/Lent/*.antt' -o -name Lent.antt) | sort; }
 if [ $check -eq 0 ]; then
-    cp -R "$made/crates" .
+    cp -R "$made/crates" . || exit 1
     for f in $(made_in .); do
-        [ -e "$made/$f" ] || { head -n 1 "$f" | grep -q 'Made by tools/transplant.py' && rm "$f" && echo "$f is made no longer: removed"; }
+        [ ! -e "$made/$f" ] || continue
+        if head -n 1 "$f" | grep -q '^-- Made by tools/transplant.py'; then
+            rm "$f" && echo "$f is made no longer: removed"
+        else
+            echo "$f is not made, and stands where made files do: move it"
+        fi
     done
     exit 0
 fi
