@@ -11,7 +11,7 @@ esac
 made=$(mktemp -d) || exit 2
 trap 'rm -rf "$made"' EXIT
 cp crates.txt "$made"
-python3 tools/transplant.py table::entry::Entry "$made/crates" && (cd "$made" && rt fmt) || exit 1
+python3 tools/transplant.py table::slot::Slot "$made/crates" && (cd "$made" && rt fmt) || exit 1
 made_in() { (cd "$1" && find crates -path '*/Proof/*.antt' -o -path '*/Lent/*.antt' -o -name Lent.antt) | sort; }
 if [ $check -eq 0 ]; then
     cp -R "$made/crates" . || exit 1

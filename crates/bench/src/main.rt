@@ -9,8 +9,8 @@ use call::answers::Answer;
 use forms::bytes;
 use libc::STDIN_FILENO;
 use libc::STDOUT_FILENO;
-use table::entry;
 use table::feed;
+use table::slot;
 use trigger::Checked;
 
 const FEED: u8 = 0;
@@ -106,13 +106,13 @@ fn profile_of(buf: &[u8]) -> &[u8] {
 
 // Owns the table, and lends it item by item. A fresh table is sound and stays so.
 fn run(buf: &[u8], checked: bool) -> State {
-    let mut entries = entry::fresh();
+    let mut slots = slot::fresh();
     let mut s = start(buf);
     while 0 < s.left {
         let a = if checked {
-            feed::feed(&mut entries, item_of(buf, s), profile_of(buf))
+            feed::feed(&mut slots, item_of(buf, s), profile_of(buf))
         } else {
-            feed::feed_sound(&mut entries, item_of(buf, s), profile_of(buf))
+            feed::feed_sound(&mut slots, item_of(buf, s), profile_of(buf))
         };
         let next = advance(buf, s, a);
         s = next;

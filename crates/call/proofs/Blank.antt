@@ -10,16 +10,15 @@ use Rattle.forms.specs.Bytes.{pad}
 use Rattle.forms.specs.declared.profile.Handling.the-variants as handling
 use Rattle.forms.proofs.ByteLaws.{and-left, and-right}
 use Rattle.call.specs.Types.{Handling, Stage, Presence, Charge, LegState, Hold, Mode, Arming, Number, Record}
-use Rattle.call.specs.declared.record.Stage.the-variants as stage
+use Rattle.call.specs.declared.stages.Stage.the-variants as stage
 use Rattle.call.specs.declared.record.Presence.the-variants as presence
 use Rattle.call.specs.declared.record.Charge.the-variants as charge
 use Rattle.call.specs.declared.record.Hold.the-variants as hold
-use Rattle.call.specs.declared.record.Mode.the-variants as mode
-use Rattle.call.specs.Points.{isAnalysing, unarmed}
-use Rattle.call.specs.Charging.{leg, isPresent, isPending}
-use Rattle.call.specs.Relationship.{isMode, someArmed, isHeld}
-use Rattle.call.specs.Operations.{isRelease}
-use Rattle.call.specs.Record.{blank}
+use Rattle.call.specs.declared.armings.Mode.the-variants as mode
+use Rattle.forms.specs.Profile.{isRelease}
+use Rattle.call.specs.Roles.{isAnalysing}
+use Rattle.call.specs.Armings.{unarmed, isMode, someArmed}
+use Rattle.call.specs.Record.{leg, isPresent, isPending, isHeld, blank}
 use Rattle.call.specs.Range.{placesInRange, isUnused, isUnarmed, isNoNumber, isBlank}
 
 -- ---- field by field

@@ -12,30 +12,35 @@ use borrow.Author.Tests.{eqb-true, eqb-false}
 use Rattle.forms.specs.Fields.{legNumber}
 use Rattle.forms.specs.Item.{itemInRange}
 use Rattle.forms.proofs.ByteLaws.{and-left, and-right}
-use Rattle.call.specs.Types.{Item, Tenths, Leg, Role, Stage, Mode, Charge, LegState, Arming, Hold, Record, Relationship, ChargeReport, Answer, Stepped, Check, Kind}
+use Rattle.call.specs.Types.{Item, Tenths, Leg, PointSet, Role, Stage, Mode, Charge, LegState, Arming, Hold, Record, Relationship, ChargeReport, Answer, Stepped, Check, Kind}
 use Rattle.forms.specs.declared.item.Leg.the-variants.{One, Two}
 use Rattle.forms.specs.declared.item.Body.the-variants as body
-use Rattle.call.specs.declared.points.Role.the-variants as role
-use Rattle.call.specs.declared.record.Stage.the-variants.{Active}
-use Rattle.call.specs.declared.record.Mode.the-variants as mode
+use Rattle.call.specs.declared.roles.Role.the-variants as role
+use Rattle.call.specs.declared.stages.Stage.the-variants.{Active}
+use Rattle.call.specs.declared.armings.Mode.the-variants as mode
 use Rattle.call.specs.declared.record.Hold.the-variants as hold
 use Rattle.call.specs.declared.record.Charge.the-variants as charge
-use Rattle.call.specs.declared.answers.Relationship.the-variants as relationship
-use Rattle.call.specs.declared.answers.ChargeReport.the-variants as report
+use Rattle.call.specs.declared.relationship.Relationship.the-variants as relationship
+use Rattle.call.specs.declared.charging.ChargeReport.the-variants as report
 use Rattle.call.specs.declared.answers.Answer.the-variants.{Accepted, Refused}
-use Rattle.call.specs.declared.answers.Check.the-variants.{Pass, Fail}
-use Rattle.call.specs.declared.step.Kind.the-variants as kind
-use Rattle.call.specs.Points.{roles, placeOf, isRole, legOf, isOnLeg, isActive, metIn, losesLeg, disarms, unarmed, modeAt, disarmed}
-use Rattle.call.specs.Charging.{isPresent, isPending, isStarted, answered, granted, reportOf}
-use Rattle.call.specs.Relationship.{isMode, someArmed, isHeld, isTrigger, relationshipOf, isRelated}
-use Rattle.call.specs.Record.{blank, noTimer, legAt}
-use Rattle.call.specs.Answers.{Row, isAccepted, firstOf, guarded}
-use Rattle.call.specs.Events.{leaves, holdAfter, legAfter, endsCall, metRecord, met}
-use Rattle.call.specs.Operations.{routed, continued, dropped, isRelease, aborted, chargeApplied}
-use Rattle.call.specs.Refusals.{row1Time, rowsOf}
+use Rattle.call.specs.declared.refusals.Check.the-variants.{Pass, Fail}
+use Rattle.call.specs.declared.kind.Kind.the-variants as kind
+use Rattle.forms.specs.Profile.{isRelease}
+use Rattle.call.specs.Roles.{roles, isRole, isActive, losesLeg, every}
+use Rattle.call.specs.Armings.{isMode, someArmed, unarmed, modeAt, disarmed}
+use Rattle.call.specs.Points.{isOnLeg, leaves, disarms, isPointSet}
+use Rattle.call.specs.Record.{isPresent, isPending, isStarted, isHeld, isTrigger, blank, noTimer, legAt}
+use Rattle.call.specs.Charging.{answered, granted, reportOf}
+use Rattle.call.specs.Relationship.{relationshipOf, isRelated}
+use Rattle.call.specs.Answers.{Row, isAccepted, remains, firstOf, guarded}
+use Rattle.call.specs.Events.{holdAfter, legAfter, endsCall, metRecord, met}
+use Rattle.call.specs.Operations.{routed, continued, dropped, aborted, chargeApplied}
+use Rattle.call.specs.Kind.{kindOf}
 use Rattle.call.specs.Range.{recordInRange}
-use Rattle.call.specs.Step.{kindOf, served, respondOf, stepOf}
+use Rattle.call.specs.Refusals.{row1Time, rowsOf}
+use Rattle.call.specs.Step.{served, respondIn, respondOf, stepOf}
 use Rattle.call.proofs.Laws.{on-cond}
+use Rattle.call.proofs.PointLaws.{every-same, below, disarm-these, disarmed-length, isPast, answer-row, lost-leg, busy-leg}
 
 -- ---- relationship
 
@@ -112,9 +117,9 @@ pub granted-waits : (s : Stage) (period t : Tenths) → isActive s ≡ false →
 granted-waits s period t h = rw h
 
 -- so the record that an Apply charging leaves before the Answer
-pub applied-waits : (r : Record) (l : Leg) (period t : Tenths) → isActive (r .stage) ≡ false → legAt l (chargeApplied r l period t .next) .charge ≡ charge.Waiting period
-applied-waits r One period t h = granted-waits (r .stage) period t h
-applied-waits r Two period t h = granted-waits (r .stage) period t h
+pub applied-waits : (dp : PointSet) (r : Record) (l : Leg) (period t : Tenths) → isActive (r .stage) ≡ false → legAt l (chargeApplied dp r l period t .next) .charge ≡ charge.Waiting period
+applied-waits dp r One period t h = granted-waits (r .stage) period t h
+applied-waits dp r Two period t h = granted-waits (r .stage) period t h
 
 -- "never restarts": an Answer leaves a started clock as it is
 pub answered-once : (t : Tenths) (c : Charge) → isStarted c ≡ true → answered t c ≡ c
@@ -123,14 +128,14 @@ answered-once t (charge.Waiting period) h = absurd (false≢true h)
 answered-once t (charge.Running period start) h = refl
 
 -- no event but Answer starts a clock: a leg that stays keeps its charge as it was
-pub clock-kept : (p : Role) (l : Leg) (t : Tenths) (s : LegState) → isRole p role.Answer ≡ false → leaves p l ≡ false → legAfter p l t s ≡ s
-clock-kept p l t s h k = rw (k, h)
+pub clock-kept : (dp : PointSet) (p : Role) (l : Leg) (t : Tenths) (s : LegState) → isRole p role.Answer ≡ false → leaves dp p l ≡ false → legAfter dp p l t s ≡ s
+clock-kept dp p l t s h k = rw (k, h)
 
 -- ---- the kept timer
 
 -- "used once": once a call is routed no timer is kept
-pub routed-keeps-none : (r : Record) (t : Tenths) → routed r t .next .kept ≡ noTimer
-routed-keeps-none r t = refl
+pub routed-keeps-none : (dp : PointSet) (r : Record) (t : Tenths) → routed dp r t .next .kept ≡ noTimer
+routed-keeps-none dp r t = refl
 
 -- ---- refusals
 
@@ -141,73 +146,24 @@ rising (x ∷ []) = true
 rising (x ∷ y ∷ l) = ltb (x .number) (y .number) && rising (y ∷ l)
 
 -- "Checked in this order": the numbers of the rows that an item meets rise, whatever it asks
-pub rows-rise : (r : Record) (k : Kind) (t : Tenths) (rest : List ℕ) → rising (row1Time t ∷ rowsOf r k t rest) ≡ true
-rows-rise r (kind.Setup nature service forwarded count) t rest = refl
-rows-rise r (kind.Event p) t rest = refl
-rows-rise r (kind.PeriodOver l) t rest = refl
-rows-rise r (kind.RequestReport n) t rest = refl
-rows-rise r kind.Continue t rest = refl
-rows-rise r (kind.Connect nature count) t rest = refl
-rows-rise r kind.Release t rest = refl
-rows-rise r (kind.ApplyCharging l period) t rest = refl
-rows-rise r kind.ActivityTest t rest = refl
-rows-rise r kind.Abort t rest = refl
+pub rows-rise : (dp : PointSet) (r : Record) (k : Kind) (t : Tenths) (rest : List ℕ) → rising (row1Time t ∷ rowsOf dp r k t rest) ≡ true
+rows-rise dp r (kind.Setup nature service forwarded count) t rest = refl
+rows-rise dp r (kind.Event p) t rest = refl
+rows-rise dp r (kind.PeriodOver l) t rest = refl
+rows-rise dp r (kind.RequestReport n) t rest = refl
+rows-rise dp r kind.Continue t rest = refl
+rows-rise dp r (kind.Connect nature count) t rest = refl
+rows-rise dp r kind.Release t rest = refl
+rows-rise dp r (kind.ApplyCharging l period) t rest = refl
+rows-rise dp r kind.ActivityTest t rest = refl
+rows-rise dp r kind.Abort t rest = refl
 
 -- an accepted item passed the rows
 pub not-refused : (c : Check) (r : Record) (s : Stepped) → isAccepted (guarded c r s .answer) ≡ true → c ≡ Pass
 not-refused Pass r s h = refl
 not-refused (Fail n) r s h = absurd (false≢true h)
 
--- ---- roles: the ten are all, so a test of the ten proves a rule for every role
-
-at-place : (p : Role) → getD roles (placeOf p) role.MidCall ≡ p
-at-place role.MidCall = refl
-at-place role.Disconnect1 = refl
-at-place role.Abandon = refl
-at-place role.Moved = refl
-at-place role.RouteFailure = refl
-at-place role.Busy = refl
-at-place role.NoAnswer = refl
-at-place role.Answer = refl
-at-place role.Disconnect2 = refl
-at-place role.Seized = refl
-
--- no two roles share a place
-pub place-injective : (p q : Role) → placeOf p ≡ placeOf q → p ≡ q
-place-injective p q e = sym (at-place p) ∙ ap (λ n. getD roles n role.MidCall) e ∙ at-place q
-
--- the test f holds of every role in the list
-abbrev pub every : (Role → Bool) → List Role → Bool
-every f [] = true
-every f (p ∷ ps) = f p && every f ps
-
-every-at : (f : Role → Bool) (d : Role) → f d ≡ true → (ps : List Role) (n : ℕ) → every f ps ≡ true → f (getD ps n d) ≡ true
-every-at f d k [] n h = k
-every-at f d k (p ∷ ps) zero h = and-left (f p) (every f ps) h
-every-at f d k (p ∷ ps) (suc n) h = every-at f d k ps n (and-right (f p) (every f ps) h)
-
--- what is tested of the ten roles holds of every role
-pub every-role : (f : Role → Bool) → every f roles ≡ true → (p : Role) → f p ≡ true
-every-role f h p = rw (at-place p) at (every-at f role.MidCall (and-left (f role.MidCall) _ h) roles (placeOf p) h)
-
-every-same : (f g : Role → Bool) → ((p : Role) → f p ≡ g p) → (ps : List Role) → every f ps ≡ every g ps
-every-same f g h [] = refl
-every-same f g h (p ∷ ps) = rw (h p, every-same f g h ps)
-
--- two tests that agree on the ten agree on every role
-agree : (f g : Role → Bool) → every (λ q. Bool·beq (f q) (g q)) roles ≡ true → (p : Role) → f p ≡ g p
-agree f g h p = same (f p) (g p) (every-role (λ q. Bool·beq (f q) (g q)) h p)
-  where
-    same : (a b : Bool) → Bool·beq a b ≡ true → a ≡ b
-    same true true h = refl
-    same true false h = sym h
-    same false true h = h
-    same false false h = refl
-
--- the test f holds of each place below n
-abbrev below : ℕ → (ℕ → Bool) → Bool
-below zero f = true
-below (suc n) f = f zero && below n (λ i. f (suc i))
+-- ---- armings
 
 -- nothing is armed exactly if nothing is at the first n places, where there are no more
 unarmed-below : (n : ℕ) (a : List Arming) → length a ≤ n → nothingArmed a ≡ below n (λ i. isMode (getD a i unarmed .mode) mode.None)
@@ -223,50 +179,6 @@ unarmed-roles a ten = unarmed-below 10 a (omega (arith, ten))
 
 -- ---- a lost leg
 
--- the role q is one of ps
-abbrev pub isAmong : Role → List Role → Bool
-isAmong q [] = false
-isAmong q (p ∷ ps) = isRole q p || isAmong q ps
-
--- to disarm a role disarms it, and no other
-disarm-one : (p q : Role) (a : List Arming) → modeAt q (set a (placeOf p) unarmed) ≡ cond (isRole q p) mode.None (modeAt q a)
-disarm-one p q a = go (isRole q p) refl
-  where
-    wiped : (l : List Arming) (n : ℕ) → getD (set l n unarmed) n unarmed ≡ unarmed
-    wiped [] n = refl
-    wiped (x ∷ l) zero = refl
-    wiped (x ∷ l) (suc n) = wiped l n
-
-    go : (b : Bool) → isRole q p ≡ b → modeAt q (set a (placeOf p) unarmed) ≡ cond b mode.None (modeAt q a)
-    go true e = rw (place-injective q p (eqb-true (placeOf q) (placeOf p) e)) (ap (λ x. x .mode) (wiped a (placeOf p)))
-    go false e = ap (λ x. x .mode) (getD-set-other a (placeOf p) (placeOf q) unarmed unarmed (eqb-false (placeOf q) (placeOf p) e))
-
--- so with a list of roles
-disarm-these : (ps : List Role) (q : Role) (a : List Arming) → modeAt q (disarmed ps a) ≡ cond (isAmong q ps) mode.None (modeAt q a)
-disarm-these [] q a = refl
-disarm-these (p ∷ ps) q a =
-    disarm-these ps q (set a (placeOf p) unarmed) ∙ ap (λ m. cond (isAmong q ps) mode.None m) (disarm-one p q a) ∙ go (isRole q p) (isAmong q ps)
-  where
-    go : (here there : Bool) → cond there mode.None (cond here mode.None (modeAt q a)) ≡ cond (here || there) mode.None (modeAt q a)
-    go true true = refl
-    go true false = refl
-    go false there = refl
-
-disarmed-length : (ps : List Role) (a : List Arming) → length (disarmed ps a) ≡ length a
-disarmed-length [] a = refl
-disarmed-length (p ∷ ps) a = disarmed-length ps (set a (placeOf p) unarmed) ∙ length-set a (placeOf p) unarmed
-
--- a role that loses its leg disarms the roles of that leg: a test of all pairs of roles
-own-leg : (p q : Role) → losesLeg p ≡ true → isAmong q (disarms p) ≡ isOnLeg q (legOf p)
-own-leg p q h = agree (λ y. isAmong y (disarms p)) (λ y. isOnLeg y (legOf p)) (rw h at (every-role test refl p)) q
-  where
-    test : Role → Bool
-    test x = not (losesLeg x) || every (λ y. Bool·beq (isAmong y (disarms x)) (isOnLeg y (legOf x))) roles
-
--- Busy and the others that lose a leg disarm that leg's points and leave every point of the other
-pub lost-leg : (p q : Role) (a : List Arming) → losesLeg p ≡ true → modeAt q (disarmed (disarms p) a) ≡ cond (isOnLeg q (legOf p)) mode.None (modeAt q a)
-lost-leg p q a h = rw (disarm-these (disarms p) q a, own-leg p q h)
-
 abbrev pub isOver : Answer → Bool
 isOver (Accepted o) = o .over
 isOver (Refused n) = false
@@ -276,16 +188,16 @@ goes-on : (b : Bool) (x y : Stepped) → isOver (x .answer) ≡ true → isOver 
 goes-on true x y e h = absurd (true≢false (sym e ∙ h))
 goes-on false x y e h = refl
 
--- so in the record that is left where the call goes on
-pub lost-leg-met : (r : Record) (p q : Role) (t : Tenths) → losesLeg p ≡ true → isOver (met r p t .answer) ≡ false
-    → modeAt q (met r p t .next .armings) ≡ cond (isOnLeg q (legOf p)) mode.None (modeAt q (r .armings))
+-- a role that loses its leg disarms that leg's points, in the record that is left where the call goes on, and leaves every point of the other as it was
+pub lost-leg-met : (dp : PointSet) → isPointSet dp ≡ true → (r : Record) (p q : Role) (l : Leg) (t : Tenths) → leaves dp p l ≡ true → isOver (met dp r p t .answer) ≡ false
+    → modeAt q (met dp r p t .next .armings) ≡ cond (isOnLeg dp q l) mode.None (modeAt q (r .armings))
 unfolding met
-lost-leg-met r p q t h k = ap (λ s. modeAt q (s .next .armings)) (goes-on (endsCall p (modeAt p (r .armings))) _ _ refl k) ∙ lost-leg p q (r .armings) h
+lost-leg-met dp fit r p q l t h k = ap (λ s. modeAt q (s .next .armings)) (goes-on (endsCall p (modeAt p (r .armings))) _ _ refl k) ∙ lost-leg dp fit p q l (r .armings) h
 
 -- P9 for every record: Busy leaves each leg 1 arming as it was
-pub busy-spares-caller : (r : Record) (q : Role) (t : Tenths) → legOf q ≡ One → isOver (met r role.Busy t .answer) ≡ false
-    → modeAt q (met r role.Busy t .next .armings) ≡ modeAt q (r .armings)
-busy-spares-caller r q t e h = lost-leg-met r role.Busy q t refl h ∙ ap (λ l. cond (eqb (legNumber l) 2) mode.None (modeAt q (r .armings))) e
+pub busy-spares-caller : (dp : PointSet) → isPointSet dp ≡ true → (r : Record) (q : Role) (t : Tenths) → isOnLeg dp q Two ≡ false → isOver (met dp r role.Busy t .answer) ≡ false
+    → modeAt q (met dp r role.Busy t .next .armings) ≡ modeAt q (r .armings)
+busy-spares-caller dp fit r q t e h = lost-leg-met dp fit r role.Busy q Two t (busy-leg dp fit) h ∙ ap (λ b. cond b mode.None (modeAt q (r .armings))) e
 
 -- ---- a met point: the hold, and the end of the call
 
@@ -309,14 +221,6 @@ ends-exactly p mode.Notify = sym (and-true (losesLeg p))
 
 -- ---- an answered call (T-01)
 
--- once the call is active the role cannot be met
-abbrev pub isPast : Role → Bool
-isPast q = not (metIn q Active)
-
--- these are what Answer disarms: 4, 5, 6, 7, 10 and 19
-pub answer-row : (q : Role) → isAmong q (disarms role.Answer) ≡ isPast q
-answer-row = agree (λ q. isAmong q (disarms role.Answer)) isPast refl
-
 -- Answer makes no charge pending and removes none
 answered-pending : (t : Tenths) (c : Charge) → isPending (answered t c) ≡ isPending c
 answered-pending t charge.None = refl
@@ -330,20 +234,20 @@ isIdleOnceAnswered r =
     && not (isPending (r .leg1 .charge)) && not (isPending (r .leg2 .charge))
 
 -- the item i is an Answer, and accepted
-module _ (r : Record) (i : Item) (rest : List ℕ) (is-answer : i .body ≡ body.Answer) (accepted : isAccepted (respondOf r i rest .answer) ≡ true) where
+module _ (dp : PointSet) (r : Record) (i : Item) (rest : List ℕ) (is-answer : i .body ≡ body.Answer) (accepted : isAccepted (respondIn dp r i rest .answer) ≡ true) where
   abbrev m : Mode
   m = modeAt role.Answer (r .armings)
 
   abbrev next : Record
-  next = respondOf r i rest .next
+  next = respondIn dp r i rest .next
 
-  next-met : next ≡ metRecord r role.Answer m (i .time)
-  unfolding respondOf met
+  next-met : next ≡ metRecord dp r role.Answer m (i .time)
+  unfolding respondIn met
   next-met =
       let k = kindOf (i .body) (r .stage) in
-      let rows = row1Time (i .time) ∷ rowsOf r k (i .time) rest in
-      ap (λ c. guarded c r (served r k (i .time) rest) .next) (not-refused (firstOf rows) r (served r k (i .time) rest) accepted)
-      ∙ ap (λ x. served r (kindOf x (r .stage)) (i .time) rest .next) is-answer
+      let rows = row1Time (i .time) ∷ rowsOf dp r k (i .time) rest in
+      ap (λ c. guarded c r (served dp r k (i .time) rest) .next) (not-refused (firstOf rows) r (served dp r k (i .time) rest) accepted)
+      ∙ ap (λ x. served dp r (kindOf x (r .stage)) (i .time) rest .next) is-answer
       ∙ rw (ends-exactly role.Answer m)
 
   pub answered-active : next .stage ≡ Active
@@ -351,7 +255,7 @@ module _ (r : Record) (i : Item) (rest : List ℕ) (is-answer : i .body ≡ body
 
   -- nothing is armed that an active call cannot meet; the rest is armed as it was
   pub answered-armings : (q : Role) → modeAt q (next .armings) ≡ cond (isPast q) mode.None (modeAt q (r .armings))
-  answered-armings q = rw (next-met, disarm-these (disarms role.Answer) q (r .armings), answer-row q)
+  answered-armings q = rw (next-met, disarm-these (disarms dp role.Answer) q (r .armings), answer-row dp q)
 
   idle-answered : length (r .armings) ≡ 10 → isIdle next ≡ isIdleOnceAnswered r
   idle-answered ten = rw (left, next-met, held-exactly role.Answer m, answered-pending (i .time) (r .leg1 .charge), answered-pending (i .time) (r .leg2 .charge))
@@ -362,7 +266,7 @@ module _ (r : Record) (i : Item) (rest : List ℕ) (is-answer : i .body ≡ body
 
       left : nothingArmed (next .armings) ≡ every (λ q. isPast q || isMode (modeAt q (r .armings)) mode.None) roles
       left =
-          unarmed-roles (next .armings) (ap (λ s. length (s .armings)) next-met ∙ disarmed-length (disarms role.Answer) (r .armings) ∙ ten)
+          unarmed-roles (next .armings) (ap (λ s. length (s .armings)) next-met ∙ disarmed-length (disarms dp role.Answer) (r .armings) ∙ ten)
           ∙ every-same _ _ (λ q. ap (λ n. isMode n mode.None) (answered-armings q) ∙ wiped (isPast q) (modeAt q (r .armings))) roles
 
   -- so the relationship is none exactly if the record before was so (a record has ten armings)
@@ -371,46 +275,42 @@ module _ (r : Record) (i : Item) (rest : List ℕ) (is-answer : i .body ≡ body
 
 -- ---- what remains: "A refusal leaves what is kept", and a call that is over leaves a blank record
 
-abbrev RemainsBy : Record → Answer → Record → Type 0
-RemainsBy r (Refused n) next = next ≡ r
-RemainsBy r (Accepted o) next = o .over ≡ true → next ≡ blank
-
 abbrev pub Remains : Record → Stepped → Type 0
-Remains r s = RemainsBy r (s .answer) (s .next)
+Remains r s = s .next ≡ remains (s .answer) r blank (s .next)
 
-module _ (r : Record) where
+module _ (dp : PointSet) (r : Record) where
   either : (b : Bool) (x y : Stepped) → Remains r x → Remains r y → Remains r (cond b x y)
   either = on-cond (Remains r)
 
-  continued-remains : (s : Record) (t : Tenths) → Remains r (continued s t)
+  continued-remains : (s : Record) (t : Tenths) → Remains r (continued dp s t)
   unfolding continued
   continued-remains s t =
       either (isPresent (s .leg1 .presence) && isPresent (s .leg2 .presence)) _ _
-      (either (isTrigger (s .hold)) _ _ (λ e. absurd (false≢true e)) (λ e. absurd (false≢true e)))
-      (λ e. refl)
+      (either (isTrigger (s .hold)) _ _ refl refl)
+      refl
 
-  served-remains : (k : Kind) (t : Tenths) (rest : List ℕ) → Remains r (served r k t rest)
+  served-remains : (k : Kind) (t : Tenths) (rest : List ℕ) → Remains r (served dp r k t rest)
   unfolding met aborted
   served-remains (kind.Setup n s w c) t rest = refl
-  served-remains (kind.Event p) t rest = either (endsCall p (modeAt p (r .armings))) _ _ (λ e. refl) (λ e. absurd (false≢true e))
-  served-remains (kind.PeriodOver l) t rest = λ e. absurd (false≢true e)
-  served-remains (kind.RequestReport n) t rest = λ e. absurd (false≢true e)
+  served-remains (kind.Event p) t rest = either (endsCall p (modeAt p (r .armings))) _ _ refl refl
+  served-remains (kind.PeriodOver l) t rest = refl
+  served-remains (kind.RequestReport n) t rest = refl
   served-remains kind.Continue t rest = continued-remains r t
-  served-remains (kind.Connect n c) t rest = λ e. absurd (false≢true e)
-  served-remains kind.Release t rest = λ e. refl
-  served-remains (kind.ApplyCharging l p) t rest = λ e. absurd (false≢true e)
-  served-remains kind.ActivityTest t rest = λ e. absurd (false≢true e)
+  served-remains (kind.Connect n c) t rest = refl
+  served-remains kind.Release t rest = refl
+  served-remains (kind.ApplyCharging l p) t rest = refl
+  served-remains kind.ActivityTest t rest = refl
   served-remains kind.Abort t rest =
-      either (isRelease (r .handling)) _ _ (λ e. refl)
-      (either (isHeld (r .hold)) _ _ (continued-remains (dropped r) t) (λ e. absurd (false≢true e)))
+      either (isRelease (r .handling)) _ _ refl
+      (either (isHeld (r .hold)) _ _ (continued-remains (dropped r) t) refl)
 
   guarded-remains : (c : Check) (s : Stepped) → Remains r s → Remains r (guarded c r s)
   guarded-remains Pass s h = h
   guarded-remains (Fail n) s h = refl
 
-  pub respond-remains : (i : Item) (rest : List ℕ) → Remains r (respondOf r i rest)
-  unfolding respondOf
-  respond-remains i rest = let k = kindOf (i .body) (r .stage) in guarded-remains (firstOf (row1Time (i .time) ∷ rowsOf r k (i .time) rest)) (served r k (i .time) rest) (served-remains k (i .time) rest)
+  pub respond-remains : (i : Item) (rest : List ℕ) → Remains r (respondIn dp r i rest)
+  unfolding respondIn
+  respond-remains i rest = let k = kindOf (i .body) (r .stage) in guarded-remains (firstOf (row1Time (i .time) ∷ rowsOf dp r k (i .time) rest)) (served dp r k (i .time) rest) (served-remains k (i .time) rest)
 
 -- ---- ranges
 

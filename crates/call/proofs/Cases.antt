@@ -1,10 +1,11 @@
 -- Computed cases of a call by itself: document 01's listing example, its edges P2 to P10 ('Both sides of each edge') as far as one call shows them, its five slips, and refusals at their order edges.
 -- `runs` is a list of runs and the answer to the last item of each: the one statement over P1 to P10 takes it up.
 use Prim.Native.Nat.{ℕ}
+use Prim.Native.String.{String}
 use mathlib.Core.Path.{_≡_, refl}
 use mathlib.Core.Bool.{Bool, true, false}
 use mathlib.Core.List.{List, [], _∷_, _++_, map, flatten}
-use mathlib.Core.Option.{Option, none}
+use mathlib.Core.Option.{Option, none, some}
 use lib.ListN.{length}
 use Rattle.forms.specs.Bytes.{all, contains, leads, same}
 use Rattle.forms.specs.Item.{itemBytes, itemInRange, restAt, bodyFrom, bodyOf, itemOf, isItem, readItem, entryBytes, entryOf}
@@ -12,34 +13,33 @@ use Rattle.forms.specs.Profile.{fieldsOf, profileBytes, profileInRange, numbers
 use Rattle.forms.proofs.Cases.{p2}
 use Rattle.forms.specs.declared.item.Leg.the-variants.{One, Two}
 use Rattle.forms.specs.declared.item.Body.the-variants as B
-use Rattle.call.specs.Types.{Body, Leg, Role, Hold, Report, Reports, ChargeReport, Deadline, Relationship, Record, Answer}
-use Rattle.call.specs.declared.points.Role.the-variants as P
-use Rattle.call.specs.declared.record.Hold.the-variants as H
-use Rattle.call.specs.declared.answers.Relationship.the-variants as R
-use Rattle.call.specs.declared.answers.Report.the-variants.{None, Trigger, Interrupting, Notification}
-use Rattle.call.specs.declared.answers.ChargeReport.the-variants as C
+use Rattle.call.specs.Types.{Body, Leg, Point, Suspension, Report, Reports, ChargeReport, Deadline, Relationship, Record, Answer}
+use Rattle.call.specs.declared.answers.Suspension.the-variants as S
+use Rattle.call.specs.declared.relationship.Relationship.the-variants as R
+use Rattle.call.specs.declared.answers.Report.the-variants.{None, Interrupting, Notification}
+use Rattle.call.specs.declared.charging.ChargeReport.the-variants as C
 use Rattle.call.specs.declared.answers.Deadline.the-variants as D
 use Rattle.call.specs.declared.answers.Answer.the-variants.{Accepted, Refused}
-use Rattle.call.specs.Answers.{reports, silent}
+use Rattle.call.specs.Armings.{someArmed}
+use Rattle.call.specs.Answers.{Pair, EventReport, Values, refusal, accepted, valuesOf, reports, silent}
 use Rattle.call.specs.Trigger.{triggers}
-use Rattle.call.specs.Relationship.{someArmed}
-use Rattle.call.specs.Arming.{entriesOf, areGood, arePossible, armedWith}
+use Rattle.call.specs.Request.{entriesOf, areGood, arePossible, armedWith}
 use Rattle.call.specs.Events.{met}
 use Rattle.call.specs.Operations.{continued, aborted}
-use Rattle.call.specs.Step.{respondOf}
+use Rattle.call.specs.Step.{respondIn}
 use Rattle.call.specs.Setup.{openOf}
-use Rattle.call.specs.Alone.{Fed, aloneStep}
+use Rattle.call.specs.Alone.{Input, aloneStep}
 
 -- ---- what a case is
 
 -- a run of a call by itself: what it is fed before, the last item, and the answer to that
 pub record Case : Type 0 where
-  pub before : List Fed
-  pub last : Fed
+  pub before : List Input
+  pub last : Input
   pub answer : Answer
 
 -- what is kept after a run, where k is kept at first
-abbrev pub keptBy : Option Record → List Fed → Option Record
+abbrev pub keptBy : Option Record → List Input → Option Record
 keptBy k [] = k
 keptBy k (f ∷ fs) = keptBy (aloneStep k (f .item) (f .profile) .1) fs
 
@@ -48,10 +48,10 @@ lastAnswer c = aloneStep (keptBy none (c .before)) (c .last .item) (c .last .pro
 
 -- items one after the other, each with its answer: a case for each
 infixr 70 _▸_
-abbrev _▸_ : Fed → Answer → Fed × Answer
+abbrev _▸_ : Input → Answer → Input × Answer
 f ▸ a = (f, a)
 
-abbrev along : List Fed → List (Fed × Answer) → List Case
+abbrev along : List Input → List (Input × Answer) → List Case
 along before [] = []
 along before (x ∷ xs) = record { before = before; last = x .0; answer = x .1 } ∷ along (before ++ (x .0 ∷ [])) xs
 
@@ -76,74 +76,97 @@ service8 = 0 ∷ 11 ∷ 1 ∷ 0 ∷ 120 ∷ 0 ∷ 0 ∷ 0 ∷ 1 ∷ 8 ∷ 0 ∷ 
 abbrev forwarded : List ℕ
 forwarded = 0 ∷ 10 ∷ 1 ∷ 0 ∷ 120 ∷ 0 ∷ 0 ∷ 0 ∷ 0 ∷ 1 ∷ []
 
-abbrev itemWith : List ℕ → ℕ → Body → List ℕ → Fed
+abbrev itemWith : List ℕ → ℕ → Body → List ℕ → Input
 itemWith profile t body rest = record { item = itemBytes (record { call = 7; time = record { 0 = t }; body = body }) rest; profile = profile }
 
-abbrev item : ℕ → Body → Fed
+abbrev item : ℕ → Body → Input
 item t body = itemWith plain t body []
 
 -- Continue at 1000
-abbrev go : Fed
+abbrev go : Input
 go = item 1000 B.Continue
 
-abbrev setup : List ℕ → List ℕ → Fed
+abbrev setup : List ℕ → List ℕ → Input
 setup profile digits = itemWith profile 1000 (B.Setup 4 0 false (length digits)) digits
 
-abbrev connect : ℕ → Fed
+abbrev connect : ℕ → Input
 connect t = itemWith plain t (B.Connect 4 2) (4 ∷ 6 ∷ [])
 
-abbrev charge : Leg → ℕ → Fed
+abbrev charge : Leg → ℕ → Input
 charge leg period = item 1000 (B.ApplyCharging leg (record { 0 = period }))
 
 -- an entry: point, leg, mode, timer
 abbrev entry : ℕ → ℕ → ℕ → ℕ → List ℕ
 entry point leg mode timer = entryBytes (record { point = point; leg = leg; mode = mode; timer = record { 0 = timer } })
 
-abbrev arm : ℕ → List (List ℕ) → Fed
+abbrev arm : ℕ → List (List ℕ) → Input
 arm t es = itemWith plain t (B.RequestReport (length es)) (flatten es)
 
 -- ---- answers, as the listing shows them
 
-abbrev ok : Relationship → Hold → Reports → Deadline → Bool → Answer
-ok relationship hold reports deadline over = Accepted (record { relationship = relationship; hold = hold; reports = reports; deadline = deadline; over = over })
+-- a detection point, as the listing shows it
+infixr 75 _╱_
+abbrev _╱_ : ℕ → Leg → Point
+number ╱ leg = record { leg = leg; number = number }
+
+abbrev ok : Relationship → Suspension → Reports → Deadline → Bool → Answer
+ok relationship suspension reports deadline over = Accepted (record { relationship = relationship; suspension = suspension; reports = reports; deadline = deadline; over = over })
 
 abbrev elapsed : ℕ → ChargeReport
 elapsed n = C.Elapsed (record { 0 = n })
 
 -- "ok control 2 r2/1", "ok control 2", "ok control 6 r6/2"
-abbrev says : Relationship → Hold → Report → Answer
-says relationship hold event = ok relationship hold (reports event C.None C.None) D.None false
+abbrev says : Relationship → Suspension → Report → Answer
+says relationship suspension event = ok relationship suspension (reports event C.None C.None) D.None false
+
+abbrev interrupts : Point → Answer
+interrupts q = says R.Control (S.At q) (Interrupting q)
 
 abbrev triggered : Answer
-triggered = says R.Control H.Trigger Trigger
+triggered = interrupts (2 ╱ One)
 
 abbrev at2 : Answer
-at2 = says R.Control H.Trigger None
-
-abbrev interrupts : Role → Answer
-interrupts p = says R.Control (H.At p) (Interrupting p)
+at2 = says R.Control (S.At (2 ╱ One)) None
 
 -- "ok control - d1300"
 abbrev routes : Relationship → ℕ → Answer
-routes relationship t = ok relationship H.None silent (D.At (record { 0 = t })) false
+routes relationship t = ok relationship S.None silent (D.At (record { 0 = t })) false
 
 -- "ok none - c2=600", "ok none - c2=123 over"; "ok none - n10/1 over"
 abbrev bills2 : ℕ → Bool → Answer
-bills2 n over = ok R.None H.None (reports None C.None (elapsed n)) D.None over
+bills2 n over = ok R.None S.None (reports None C.None (elapsed n)) D.None over
 
 abbrev ends : Report → Answer
-ends event = ok R.None H.None (reports event C.None C.None) D.None true
+ends event = ok R.None S.None (reports event C.None C.None) D.None true
+
+-- the values of answers, as the paper has them: "ok control 2 r2/1", "ok monitor - c1=100 d1300", "ok none - n10/1 c2=123 over", "refused 7"
+abbrev pair : ℕ → ℕ → Pair
+pair point leg = record { point = point; leg = leg }
+
+abbrev told : String → Option Pair → Option EventReport → Option ℕ → Option ℕ → Option ℕ → Bool → Values
+told relationship suspended event charge1 charge2 deadline over =
+    accepted (record { relationship = relationship; suspended = suspended; event = event; charge1 = charge1; charge2 = charge2; deadline = deadline; over = over })
+
+pub values :
+    map valuesOf
+    (triggered ∷ ok R.Monitor S.None (reports None (elapsed 100) C.None) (D.At (record { 0 = 1300 })) false ∷ ok R.None S.None (reports (Notification (10 ╱ One)) C.None (elapsed 123)) D.None true ∷ Refused 7 ∷ [])
+    ≡ told "control" (some (pair 2 1)) (some (record { interrupting = true; met = pair 2 1 })) none none none false
+    ∷ told "monitor" none none (some 100) none (some 1300) false
+    ∷ told "none" none (some (record { interrupting = false; met = pair 10 1 })) none (some 123) none true
+    ∷ refusal 7
+    ∷ []
+values = refl
 
 -- ---- the runs
 
-abbrev held : List Fed
+abbrev held : List Input
 held = setup plain (4 ∷ 9 ∷ 1 ∷ 5 ∷ []) ∷ []
 
 -- period 600 on leg 2; answered at 5000 (P1)
-abbrev granted : List Fed
+abbrev granted : List Input
 granted = held ++ (charge Two 600 ∷ go ∷ [])
 
-abbrev answered : List Fed
+abbrev answered : List Input
 answered = granted ++ (item 5000 B.Answer ∷ [])
 
 abbrev pub runs : List Case
@@ -153,7 +176,7 @@ runs =
     (setup plain (4 ∷ 9 ∷ 1 ∷ 5 ∷ []) ▸ triggered
     ∷ record { item = p2; profile = plain } ▸ at2
     ∷ go ▸ routes R.Control 1300
-    ∷ item 1300 B.NoAnswer ▸ interrupts P.NoAnswer
+    ∷ item 1300 B.NoAnswer ▸ interrupts (6 ╱ Two)
     ∷ item 1310 B.Release ▸ ends None
     ∷ item 1310 B.Continue ▸ Refused 4
     ∷ [])
@@ -175,7 +198,7 @@ runs =
     -- P9 Busy leaves Abandon armed: Clear of leg 1 notifies it
     ++ along held
     (arm 1000 (entry 5 2 0 0 ∷ entry 10 1 1 0 ∷ []) ▸ at2 ∷ go ▸ routes R.Control 2200
-    ∷ item 2000 (B.Busy 17) ▸ interrupts P.Busy ∷ item 2010 (B.Clear One 16) ▸ ends (Notification P.Abandon) ∷ [])
+    ∷ item 2000 (B.Busy 17) ▸ interrupts (5 ╱ Two) ∷ item 2010 (B.Clear One 16) ▸ ends (Notification (10 ╱ One)) ∷ [])
     -- P10 timer 2047 accepted, 2048 is 11
     ++ along held (arm 1000 (entry 6 2 0 2048 ∷ []) ▸ Refused 11 ∷ arm 1000 (entry 6 2 0 2047 ∷ []) ▸ at2 ∷ go ▸ routes R.Control 21470 ∷ [])
     -- slip, a charge clock started at the grant: none runs before the Answer
@@ -183,20 +206,20 @@ runs =
     -- slip, an unarmed Answer that disarms nothing
     ++ along held
     (arm 1000 (entry 4 2 0 0 ∷ entry 5 2 0 0 ∷ entry 6 2 0 0 ∷ entry 10 1 0 0 ∷ []) ▸ at2 ∷ go ▸ routes R.Control 2200
-    ∷ item 5000 B.Answer ▸ says R.None H.None None ∷ [])
+    ∷ item 5000 B.Answer ▸ says R.None S.None None ∷ [])
     -- slip, a relationship that outlives the last armed point
     ++ along held
     (arm 1000 (entry 19 2 1 0 ∷ []) ▸ at2 ∷ go ▸ routes R.Monitor 2200
-    ∷ item 1100 B.Seized ▸ says R.None H.None (Notification P.Seized) ∷ item 1100 B.ActivityTest ▸ Refused 8 ∷ [])
+    ∷ item 1100 B.Seized ▸ says R.None S.None (Notification (19 ╱ Two)) ∷ item 1100 B.ActivityTest ▸ Refused 8 ∷ [])
     -- nor does the kept timer hold it, which outlives the arming of 6
     ++ along held
-    (arm 1000 (entry 19 2 0 0 ∷ []) ▸ at2 ∷ go ▸ routes R.Control 2200 ∷ item 1100 B.Seized ▸ interrupts P.Seized
-    ∷ arm 1100 (entry 6 2 1 30 ∷ []) ▸ says R.Control (H.At P.Seized) None ∷ arm 1100 (entry 6 2 2 0 ∷ []) ▸ says R.Control (H.At P.Seized) None
-    ∷ item 1100 B.Continue ▸ says R.None H.None None ∷ [])
+    (arm 1000 (entry 19 2 0 0 ∷ []) ▸ at2 ∷ go ▸ routes R.Control 2200 ∷ item 1100 B.Seized ▸ interrupts (19 ╱ Two)
+    ∷ arm 1100 (entry 6 2 1 30 ∷ []) ▸ says R.Control (S.At (19 ╱ Two)) None ∷ arm 1100 (entry 6 2 2 0 ∷ []) ▸ says R.Control (S.At (19 ╱ Two)) None
+    ∷ item 1100 B.Continue ▸ says R.None S.None None ∷ [])
     -- slip, a TNRy reused on the follow-on call
     ++ along held
     (arm 1000 (entry 6 2 0 30 ∷ []) ▸ at2 ∷ connect 1000 ▸ routes R.Control 1300
-    ∷ item 1300 B.NoAnswer ▸ interrupts P.NoAnswer ∷ connect 1310 ▸ routes R.None 2510 ∷ [])
+    ∷ item 1300 B.NoAnswer ▸ interrupts (6 ╱ Two) ∷ connect 1310 ▸ routes R.None 2510 ∷ [])
     -- slip, a half-applied arming list
     ++ along held (arm 1000 (entry 6 2 0 30 ∷ entry 5 2 3 0 ∷ []) ▸ Refused 11 ∷ go ▸ routes R.None 2200 ∷ [])
     -- 2 before 5; 9 before 12; 7 before 8; 8 before 10
@@ -206,12 +229,12 @@ runs =
     -- 10 before 12; 11 before 12, for a bad entry after an impossible one
     ++ along held
     (arm 1000 (entry 7 2 0 0 ∷ []) ▸ at2 ∷ go ▸ routes R.Control 2200 ∷ connect 1000 ▸ Refused 10
-    ∷ item 5000 B.Answer ▸ interrupts P.Answer ∷ connect 5000 ▸ Refused 12
+    ∷ item 5000 B.Answer ▸ interrupts (7 ╱ Two) ∷ connect 5000 ▸ Refused 12
     ∷ arm 5000 (entry 5 2 0 0 ∷ entry 9 3 0 0 ∷ []) ▸ Refused 11 ∷ arm 5000 (entry 5 2 0 0 ∷ []) ▸ Refused 12 ∷ [])
     -- 12 before 13: leg 1 absent, a charge pending on leg 2
     ++ along held
     (arm 1000 (entry 10 1 0 0 ∷ []) ▸ at2 ∷ charge Two 600 ▸ at2 ∷ charge Two 600 ▸ Refused 13
-    ∷ item 1000 (B.Clear One 16) ▸ interrupts P.Abandon ∷ charge Two 600 ▸ Refused 12 ∷ [])
+    ∷ item 1000 (B.Clear One 16) ▸ interrupts (10 ╱ One) ∷ charge Two 600 ▸ Refused 12 ∷ [])
     -- triggering: inhibiting, a length, a service, forwarded calls only
     ++ along [] (setup (stored 2) (4 ∷ 9 ∷ 1 ∷ 5 ∷ []) ▸ routes R.None 2200 ∷ [])
     ++ along [] (setup (stored 2) (4 ∷ 9 ∷ []) ▸ triggered ∷ [])
@@ -223,33 +246,33 @@ runs =
     ++ along [] (setup forwarded (4 ∷ []) ▸ routes R.None 2200 ∷ [])
     -- two charges, of leg 1 first: at the end of the call, and for a caller who hangs up while the call is held
     ++ along held
-    (charge One 100 ▸ at2 ∷ charge Two 600 ▸ at2 ∷ go ▸ routes R.Monitor 2200 ∷ item 5000 B.Answer ▸ says R.Monitor H.None None
-    ∷ item 5123 (B.Clear One 16) ▸ ok R.None H.None (reports None (elapsed 100) (elapsed 123)) D.None true ∷ [])
+    (charge One 100 ▸ at2 ∷ charge Two 600 ▸ at2 ∷ go ▸ routes R.Monitor 2200 ∷ item 5000 B.Answer ▸ says R.Monitor S.None None
+    ∷ item 5123 (B.Clear One 16) ▸ ok R.None S.None (reports None (elapsed 100) (elapsed 123)) D.None true ∷ [])
     ++ along held
-    (charge One 100 ▸ at2 ∷ charge Two 600 ▸ at2 ∷ item 1000 (B.Clear One 16) ▸ ok R.None H.None (reports None (elapsed 0) (elapsed 0)) D.None true ∷ [])
+    (charge One 100 ▸ at2 ∷ charge Two 600 ▸ at2 ∷ item 1000 (B.Clear One 16) ▸ ok R.None S.None (reports None (elapsed 0) (elapsed 0)) D.None true ∷ [])
     -- Release with a charge; a charge lost at Busy, then Continue without leg 2; Period over while held; Activity test
     ++ along held
-    (arm 1000 (entry 9 2 0 0 ∷ []) ▸ at2 ∷ charge Two 600 ▸ at2 ∷ go ▸ routes R.Control 2200 ∷ item 5000 B.Answer ▸ says R.Control H.None None
+    (arm 1000 (entry 9 2 0 0 ∷ []) ▸ at2 ∷ charge Two 600 ▸ at2 ∷ go ▸ routes R.Control 2200 ∷ item 5000 B.Answer ▸ says R.Control S.None None
     ∷ item 5050 B.Release ▸ bills2 50 true ∷ [])
     ++ along held
     (arm 1000 (entry 5 2 0 0 ∷ []) ▸ at2 ∷ charge Two 600 ▸ at2 ∷ go ▸ routes R.Control 2200
-    ∷ item 2000 (B.Busy 17) ▸ ok R.Control (H.At P.Busy) (reports (Interrupting P.Busy) C.None (elapsed 0)) D.None false ∷ item 2010 B.Continue ▸ ends None ∷ [])
+    ∷ item 2000 (B.Busy 17) ▸ ok R.Control (S.At (5 ╱ Two)) (reports (Interrupting (5 ╱ Two)) C.None (elapsed 0)) D.None false ∷ item 2010 B.Continue ▸ ends None ∷ [])
     ++ along held
-    (item 1000 B.ActivityTest ▸ at2 ∷ arm 1000 (entry 7 2 0 0 ∷ []) ▸ at2 ∷ charge Two 600 ▸ at2 ∷ go ▸ routes R.Control 2200 ∷ item 5000 B.Answer ▸ interrupts P.Answer
-    ∷ item 5600 (B.PeriodOver Two) ▸ ok R.Control (H.At P.Answer) (reports None C.None (elapsed 600)) D.None false ∷ [])
+    (item 1000 B.ActivityTest ▸ at2 ∷ arm 1000 (entry 7 2 0 0 ∷ []) ▸ at2 ∷ charge Two 600 ▸ at2 ∷ go ▸ routes R.Control 2200 ∷ item 5000 B.Answer ▸ interrupts (7 ╱ Two)
+    ∷ item 5600 (B.PeriodOver Two) ▸ ok R.Control (S.At (7 ╱ Two)) (reports None C.None (elapsed 600)) D.None false ∷ [])
     -- Abort: held at 2, the kept timer and the charge dropped; not held; with default release
     ++ along held (arm 1000 (entry 6 2 0 30 ∷ []) ▸ at2 ∷ charge Two 600 ▸ at2 ∷ item 1000 B.Abort ▸ routes R.None 2200 ∷ [])
-    ++ along held (arm 1000 (entry 9 2 0 0 ∷ []) ▸ at2 ∷ go ▸ routes R.Control 2200 ∷ item 1000 B.Abort ▸ says R.None H.None None ∷ [])
+    ++ along held (arm 1000 (entry 9 2 0 0 ∷ []) ▸ at2 ∷ go ▸ routes R.Control 2200 ∷ item 1000 B.Abort ▸ says R.None S.None None ∷ [])
     ++ along [] (setup releasing (4 ∷ []) ▸ triggered ∷ charge Two 600 ▸ at2 ∷ item 1000 B.Abort ▸ ends None ∷ [])
     -- mode 2 disarms; 50 takes no mode 0; any point can be armed without leg 2, none without leg 1, but for mode 2
     ++ along held (arm 1000 (entry 5 2 0 0 ∷ []) ▸ at2 ∷ arm 1000 (entry 5 2 2 0 ∷ []) ▸ at2 ∷ arm 1000 (entry 50 1 0 0 ∷ []) ▸ Refused 11 ∷ go ▸ routes R.None 2200 ∷ [])
     ++ along held
-    (arm 1000 (entry 9 2 0 0 ∷ []) ▸ at2 ∷ go ▸ routes R.Control 2200 ∷ item 5000 B.Answer ▸ says R.Control H.None None ∷ item 5100 (B.Clear Two 16) ▸ interrupts P.Disconnect2
-    ∷ arm 5100 (entry 4 2 1 0 ∷ []) ▸ says R.Control (H.At P.Disconnect2) None ∷ [])
+    (arm 1000 (entry 9 2 0 0 ∷ []) ▸ at2 ∷ go ▸ routes R.Control 2200 ∷ item 5000 B.Answer ▸ says R.Control S.None None ∷ item 5100 (B.Clear Two 16) ▸ interrupts (9 ╱ Two)
+    ∷ arm 5100 (entry 4 2 1 0 ∷ []) ▸ says R.Control (S.At (9 ╱ Two)) None ∷ [])
     ++ along held
-    (arm 1000 (entry 10 1 0 0 ∷ []) ▸ at2 ∷ item 1000 (B.Clear One 16) ▸ interrupts P.Abandon
-    ∷ arm 1000 (entry 9 2 1 0 ∷ []) ▸ Refused 12 ∷ arm 1000 (entry 9 2 2 0 ∷ []) ▸ says R.Control (H.At P.Abandon) None ∷ [])
+    (arm 1000 (entry 10 1 0 0 ∷ []) ▸ at2 ∷ item 1000 (B.Clear One 16) ▸ interrupts (10 ╱ One)
+    ∷ arm 1000 (entry 9 2 1 0 ∷ []) ▸ Refused 12 ∷ arm 1000 (entry 9 2 2 0 ∷ []) ▸ says R.Control (S.At (10 ╱ One)) None ∷ [])
 
 pub cases : map lastAnswer runs ≡ map (λ (c : Case). c .answer) runs
-unfolding flatten all contains leads same itemBytes itemInRange restAt bodyFrom bodyOf itemOf isItem readItem entryOf fieldsOf profileBytes profileInRange numbersAt numbersEnd viewAt profileOf isProfile someMatches triggers someArmed entriesOf areGood arePossible armedWith met continued aborted respondOf openOf aloneStep
+unfolding flatten all contains leads same itemBytes itemInRange restAt bodyFrom bodyOf itemOf isItem readItem entryOf fieldsOf profileBytes profileInRange numbersAt numbersEnd viewAt profileOf isProfile someMatches triggers someArmed entriesOf areGood arePossible armedWith met continued aborted respondIn openOf aloneStep
 cases = refl

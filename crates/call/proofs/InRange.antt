@@ -2,7 +2,7 @@
 -- A record is in range if eight tests hold (`Fits`), and every next record is the old one with some fields replaced, so a step has only to say which tests it touches.
 use Prim.Native.Nat.{ℕ, zero, suc, _+_, _≤_}
 use mathlib.Core.Path.{_≡_, refl, sym, ap, _∙_, subst}
-use mathlib.Core.Bool.{Bool, true, false, not, cond, _&&_, _||_}
+use mathlib.Core.Bool.{Bool, true, false, not, cond, _&&_, _||_, or-true, false≢true}
 use mathlib.Core.List.{List, [], _∷_}
 use native.Mathlib.Omega.{arith}
 use lib.Dec.{leb, eqb}
@@ -16,31 +16,34 @@ use Rattle.forms.specs.Units.{isClockReading, isPeriod, isTimer, isDefaultTimer
 use Rattle.forms.specs.declared.item.Body.the-variants as body
 use Rattle.forms.specs.declared.item.Leg.the-variants.{One, Two}
 use Rattle.forms.proofs.ByteLaws.{and-left, and-right}
-use Rattle.call.specs.Types.{Body, Item, Entry, Leg, Handling, Seconds, Tenths, Role, Named, Stage, Mode, Charge, LegState, Arming, Hold, Number, Record, Answer, Check, Stepped, Kind}
-use Rattle.call.specs.declared.points.Role.the-variants as role
+use Rattle.call.specs.Types.{Body, Item, Entry, Leg, Handling, Seconds, Tenths, PointSet, Role, Named, Stage, Mode, Charge, LegState, Arming, Hold, Number, Record, Check, Stepped, Kind}
+use Rattle.call.specs.declared.roles.Role.the-variants as role
 use Rattle.call.specs.declared.record.Presence.the-variants.{Absent, Present}
-use Rattle.call.specs.declared.record.Stage.the-variants.{Analysing}
+use Rattle.call.specs.declared.stages.Stage.the-variants.{Analysing}
 use Rattle.call.specs.declared.points.Named.the-variants.{Unknown, Known}
-use Rattle.call.specs.declared.record.Mode.the-variants as mode
+use Rattle.call.specs.declared.armings.Mode.the-variants as mode
 use Rattle.call.specs.declared.record.Charge.the-variants as charge
 use Rattle.call.specs.declared.record.Hold.the-variants as hold
-use Rattle.call.specs.declared.answers.Answer.the-variants as answer
-use Rattle.call.specs.declared.answers.Check.the-variants.{Pass, Fail}
-use Rattle.call.specs.declared.step.Kind.the-variants as kind
-use Rattle.call.specs.Points.{placeOf, isRole, isActive, unarmed, modeAt, disarms, disarmed}
-use Rattle.call.specs.Charging.{leg, isPresent, answered, granted}
-use Rattle.call.specs.Record.{numberOf, timed, placed, withLegs, withLeg, armedAs, numbered}
-use Rattle.call.specs.Relationship.{isMode, modeOf, isHeld, isTrigger}
-use Rattle.call.specs.Answers.{firstOf, guarded}
-use Rattle.call.specs.Arming.{entriesOf, named, isModeFor, isTimerFor, isGood, seenAfter, areGood, noneSeen, keptAfter, armedBy, armedWith}
+use Rattle.call.specs.declared.refusals.Check.the-variants.{Pass, Fail}
+use Rattle.call.specs.declared.kind.Kind.the-variants as kind
+use Rattle.forms.specs.Profile.{isRelease}
+use Rattle.call.specs.Roles.{roles, placeOf, isRole, isAmong, every, isActive}
+use Rattle.call.specs.Armings.{isMode, modeOf, unarmed, noArmings, modeAt, disarmed}
+use Rattle.call.specs.Points.{originating, pointIn, isIn, leaves, disarms, isPointSet}
+use Rattle.call.specs.Record.{setOf, leg, isPresent, numberOf, timed, staged, withLegs, withLeg, armedAs, numbered, isHeld, isTrigger}
+use Rattle.call.specs.Charging.{answered, granted}
+use Rattle.call.specs.Answers.{remains, firstOf, guarded}
 use Rattle.call.specs.Trigger.{triggers}
-use Rattle.call.specs.Events.{holdAfter, leaves, legAfter, endsCall, metRecord, met}
-use Rattle.call.specs.Operations.{resumed, continued, connected, dropped, isRelease, aborted, charged}
+use Rattle.call.specs.Request.{entriesOf, named, isModeFor, isTimerFor, isGood, seenAfter, areGood, noneSeen, keptAfter, armedBy, armedWith}
+use Rattle.call.specs.Events.{holdAfter, legAfter, endsCall, metRecord, met}
+use Rattle.call.specs.Operations.{resumed, continued, connected, dropped, aborted, charged}
+use Rattle.call.specs.Kind.{kindOf}
+use Rattle.call.specs.Range.{chargeInRange, holdInRange, armingsInRange, placesInRange, numberInRange, inRangeOf, recordInRange}
 use Rattle.call.specs.Refusals.{row1, row1Time, row2, row3, row7, rowsOf}
-use Rattle.call.specs.Range.{chargeInRange, holdInRange, placesInRange, numberInRange, recordInRange}
-use Rattle.call.specs.Step.{kindOf, served, respondOf, stepOf}
+use Rattle.call.specs.Step.{served, respondIn, respondOf, stepOf}
 use Rattle.call.specs.Setup.{opened, begun, openAs, openOf}
 use Rattle.call.proofs.Laws.{on-cond, passes, no-row}
+use Rattle.call.proofs.PointLaws.{place-injective, same-role, every-role, disarm-these, originating-fits, role-exactly, pair-point}
 
 -- ---- tests in a row
 
@@ -58,50 +61,68 @@ each b (c ∷ l) h (suc (suc i)) = each (b && c) l h (suc i)
 
 -- ---- a record's tests, one by one
 
-abbrev calm : Mode → Bool
-calm m = not (isMode m mode.Interrupted)
-
-pub record Fits (r : Record) : Type 0 where
+pub record Fits (dp : PointSet) (r : Record) : Type 0 where
   pub leg1 : chargeInRange (r .leg1 .charge) (r .last) ≡ true
   pub leg2 : chargeInRange (r .leg2 .charge) (r .last) ≡ true
-  pub hold : holdInRange (r .hold) ≡ true
+  pub hold : holdInRange dp (r .hold) ≡ true
   pub last : isClockReading (r .last) ≡ true
-  pub armings : calm (modeAt role.Moved (r .armings)) ≡ true
+  pub armings : armingsInRange dp (r .armings) ≡ true
   pub kept : isTimer (r .kept) ≡ true
   pub timer : isDefaultTimer (r .timer) ≡ true
   pub number : numberInRange (r .number) ≡ true
 
-pub fits : (r : Record) → recordInRange r ≡ true → Fits r
-unfolding recordInRange
-fits r h =
-    let f = each (chargeInRange (r .leg1 .charge) (r .last)) (chargeInRange (r .leg2 .charge) (r .last) ∷ holdInRange (r .hold) ∷ isClockReading (r .last) ∷ calm (modeAt role.Moved (r .armings)) ∷ isTimer (r .kept) ∷ isDefaultTimer (r .timer) ∷ numberInRange (r .number) ∷ []) h in
+pub fits : (dp : PointSet) (r : Record) → inRangeOf dp r ≡ true → Fits dp r
+unfolding inRangeOf
+fits dp r h =
+    let f = each (chargeInRange (r .leg1 .charge) (r .last)) (chargeInRange (r .leg2 .charge) (r .last) ∷ holdInRange dp (r .hold) ∷ isClockReading (r .last) ∷ armingsInRange dp (r .armings) ∷ isTimer (r .kept) ∷ isDefaultTimer (r .timer) ∷ numberInRange (r .number) ∷ []) h in
     record { leg1 = f 0; leg2 = f 1; hold = f 2; last = f 3; armings = f 4; kept = f 5; timer = f 6; number = f 7 }
 
-pub in-range : (r : Record) → Fits r → recordInRange r ≡ true
-unfolding recordInRange
-in-range r f = rw (f .leg1, f .leg2, f .hold, f .last, f .armings, f .kept, f .timer, f .number)
+pub in-range : (dp : PointSet) (r : Record) → Fits dp r → inRangeOf dp r ≡ true
+unfolding inRangeOf
+in-range dp r f = rw (f .leg1, f .leg2, f .hold, f .last, f .armings, f .kept, f .timer, f .number)
+
+-- ---- armings
+
+-- every role is in the set or unarmed, and Moved is not armed in mode 0
+in-set : (dp : PointSet) (a : List Arming) → armingsInRange dp a ≡ true → (p : Role) → (isIn dp p || isMode (modeAt p a) mode.None) ≡ true
+in-set dp a h = every-role (λ p. isIn dp p || isMode (modeAt p a) mode.None) (and-left _ (not (isMode (modeAt role.Moved a) mode.Interrupted)) h)
+
+calm : (dp : PointSet) (a : List Arming) → armingsInRange dp a ≡ true → not (isMode (modeAt role.Moved a) mode.Interrupted) ≡ true
+calm dp a h = and-right (every (λ p. isIn dp p || isMode (modeAt p a) mode.None) roles) _ h
+
+-- every-role the other way round: a test that holds of every role holds of the ten
+all-roles : (f : Role → Bool) → ((p : Role) → f p ≡ true) → (ps : List Role) → every f ps ≡ true
+all-roles f h [] = refl
+all-roles f h (p ∷ ps) = rw (h p, all-roles f h ps)
+
+armings-fit : (dp : PointSet) (a : List Arming) → ((p : Role) → (isIn dp p || isMode (modeAt p a) mode.None) ≡ true) → not (isMode (modeAt role.Moved a) mode.Interrupted) ≡ true → armingsInRange dp a ≡ true
+armings-fit dp a h k = rw (all-roles (λ p. isIn dp p || isMode (modeAt p a) mode.None) h roles, k)
+
+-- nothing armed
+none-fits : (dp : PointSet) → armingsInRange dp noArmings ≡ true
+none-fits dp = armings-fit dp noArmings (λ p. rw (every-role (λ q. isMode (modeAt q noArmings) mode.None) refl p) (or-true (isIn dp p))) refl
 
 -- ---- fields replaced
 
-module _ (r : Record) (f : Fits r) where
-  placed-fits : (s : Stage) (h : Hold) → holdInRange h ≡ true → Fits (placed r s h)
-  placed-fits s h o = record { leg1 = f .leg1; leg2 = f .leg2; hold = o; last = f .last; armings = f .armings; kept = f .kept; timer = f .timer; number = f .number }
+module _ (dp : PointSet) (r : Record) (f : Fits dp r) where
+  staged-fits : (s : Stage) (h : Hold) → holdInRange dp h ≡ true → Fits dp (staged r s h)
+  staged-fits s h o = record { leg1 = f .leg1; leg2 = f .leg2; hold = o; last = f .last; armings = f .armings; kept = f .kept; timer = f .timer; number = f .number }
 
-  legs-fit : (a b : LegState) → chargeInRange (a .charge) (r .last) ≡ true → chargeInRange (b .charge) (r .last) ≡ true → Fits (withLegs r a b)
+  legs-fit : (a b : LegState) → chargeInRange (a .charge) (r .last) ≡ true → chargeInRange (b .charge) (r .last) ≡ true → Fits dp (withLegs r a b)
   legs-fit a b o p = record { leg1 = o; leg2 = p; hold = f .hold; last = f .last; armings = f .armings; kept = f .kept; timer = f .timer; number = f .number }
 
-  armed-fits : (a : List Arming) (k : Seconds) → calm (modeAt role.Moved a) ≡ true → isTimer k ≡ true → Fits (armedAs r a k)
+  armed-fits : (a : List Arming) (k : Seconds) → armingsInRange dp a ≡ true → isTimer k ≡ true → Fits dp (armedAs r a k)
   armed-fits a k o p = record { leg1 = f .leg1; leg2 = f .leg2; hold = f .hold; last = f .last; armings = o; kept = p; timer = f .timer; number = f .number }
 
-  numbered-fits : (n : Number) → numberInRange n ≡ true → Fits (numbered r n)
+  numbered-fits : (n : Number) → numberInRange n ≡ true → Fits dp (numbered r n)
   numbered-fits n o = record { leg1 = f .leg1; leg2 = f .leg2; hold = f .hold; last = f .last; armings = f .armings; kept = f .kept; timer = f .timer; number = o }
 
-  leg-fits : (l : Leg) (s : LegState) → chargeInRange (s .charge) (r .last) ≡ true → Fits (withLeg l r s)
+  leg-fits : (l : Leg) (s : LegState) → chargeInRange (s .charge) (r .last) ≡ true → Fits dp (withLeg l r s)
   leg-fits One s o = legs-fit s (r .leg2) o (f .leg2)
   leg-fits Two s o = legs-fit (r .leg1) s (f .leg1) o
 
-  dropped-fits : Fits (dropped r)
-  dropped-fits = record { leg1 = refl; leg2 = refl; hold = f .hold; last = f .last; armings = refl; kept = refl; timer = f .timer; number = f .number }
+  dropped-fits : Fits dp (dropped r)
+  dropped-fits = record { leg1 = refl; leg2 = refl; hold = f .hold; last = f .last; armings = none-fits dp; kept = refl; timer = f .timer; number = f .number }
 
 -- ---- charges, at a later time
 
@@ -127,16 +148,16 @@ granted-fits s p t h = go (isActive s)
     go true = now-runs p t h
     go false = h
 
-leg-after-fits : (p : Role) (l : Leg) (s : LegState) (a t : Tenths) → chargeInRange (s .charge) a ≡ true → a .0 ≤ t .0 → chargeInRange (legAfter p l t s .charge) t ≡ true
-leg-after-fits p l s a t h le = go (leaves p l) (isRole p role.Answer)
+leg-after-fits : (dp : PointSet) (p : Role) (l : Leg) (s : LegState) (a t : Tenths) → chargeInRange (s .charge) a ≡ true → a .0 ≤ t .0 → chargeInRange (legAfter dp p l t s .charge) t ≡ true
+leg-after-fits dp p l s a t h le = go (leaves dp p l) (isRole p role.Answer)
   where
     go : (b c : Bool) → chargeInRange (cond b (leg Absent charge.None) (leg (s .presence) (cond c (answered t (s .charge)) (s .charge))) .charge) t ≡ true
     go true c = refl
     go false true = answered-fits (s .charge) a t h le
     go false false = later (s .charge) a t h le
 
-timed-fits : (r : Record) (t : Tenths) → Fits r → isClockReading t ≡ true → r .last .0 ≤ t .0 → Fits (timed r t)
-timed-fits r t f o le = record {
+timed-fits : (dp : PointSet) (r : Record) (t : Tenths) → Fits dp r → isClockReading t ≡ true → r .last .0 ≤ t .0 → Fits dp (timed r t)
+timed-fits dp r t f o le = record {
   leg1 = later (r .leg1 .charge) (r .last) t (f .leg1) le;
   leg2 = later (r .leg2 .charge) (r .last) t (f .leg2) le;
   hold = f .hold;
@@ -149,6 +170,48 @@ timed-fits r t f o le = record {
 
 -- ---- armings, hold and kept timer
 
+-- what is unarmed stays so, whatever the row
+disarmed-fits : (dp : PointSet) (ps : List Role) (a : List Arming) → armingsInRange dp a ≡ true → armingsInRange dp (disarmed ps a) ≡ true
+disarmed-fits dp ps a h =
+    armings-fit dp (disarmed ps a)
+    (λ p. rw (disarm-these ps p a) (unarmed-or (isIn dp p) (isAmong p ps) (modeAt p a) (in-set dp a h p)))
+    (rw (disarm-these ps role.Moved a) (calm-or (isAmong role.Moved ps) (modeAt role.Moved a) (calm dp a h)))
+  where
+    unarmed-or : (b c : Bool) (m : Mode) → (b || isMode m mode.None) ≡ true → (b || isMode (cond c mode.None m) mode.None) ≡ true
+    unarmed-or true c m k = refl
+    unarmed-or false true m k = refl
+    unarmed-or false false m k = k
+
+    calm-or : (c : Bool) (m : Mode) → not (isMode m mode.Interrupted) ≡ true → not (isMode (cond c mode.None m) mode.Interrupted) ≡ true
+    calm-or true m k = refl
+    calm-or false m k = k
+
+-- a role that was armed is a point of the call, and the call is not held at Moved
+hold-fits : (dp : PointSet) (p : Role) (a : List Arming) → armingsInRange dp a ≡ true → holdInRange dp (holdAfter p (modeAt p a)) ≡ true
+hold-fits dp p a h = go (modeAt p a) refl
+  where
+    point : (b : Bool) → (b || false) ≡ true → b ≡ true
+    point true k = refl
+    point false k = k
+
+    elsewhere : (b : Bool) → isRole p role.Moved ≡ b → modeAt p a ≡ mode.Interrupted → not b ≡ true
+    elsewhere true e k = absurd (let z : false ≡ true = rw (← same-role p role.Moved e, k) at (calm dp a h) in false≢true z)
+    elsewhere false e k = refl
+
+    go : (m : Mode) → modeAt p a ≡ m → holdInRange dp (holdAfter p m) ≡ true
+    go mode.None e = refl
+    go mode.Notify e = refl
+    go mode.Interrupted e = rw (point (isIn dp p) (rw e at (in-set dp a h p))) (elsewhere (isRole p role.Moved) refl e)
+
+-- 50 takes no mode 0
+mode-fits : (m : ℕ) → isModeFor role.Moved m ≡ true → not (isMode (modeOf m) mode.Interrupted) ≡ true
+mode-fits m h = go (eqb m 0) (eqb m 1) refl
+  where
+    go : (b c : Bool) → eqb m 0 ≡ b → not (isMode (cond b mode.Interrupted (cond c mode.Notify mode.None)) mode.Interrupted) ≡ true
+    go true c k = absurd (let z : false ≡ true = rw k at (and-right (leb m 2) (not (eqb m 0)) h) in false≢true z)
+    go false true k = refl
+    go false false k = refl
+
 -- what holds of the element at j, and of x if it is put there, holds of that element afterwards
 set-holds : {A : Type 0} (P : A → Type 0) (d x : A) (l : List A) (i j : ℕ) → P (getD l j d) → (i ≡ j → P x) → P (getD (set l i x) j d)
 set-holds P d x [] i j h g = h
@@ -157,64 +220,41 @@ set-holds P d x (y ∷ l) zero (suc j) h g = h
 set-holds P d x (y ∷ l) (suc i) zero h g = h
 set-holds P d x (y ∷ l) (suc i) (suc j) h g = set-holds P d x l i j h (λ e. g (ap suc e))
 
-abbrev Calm : Arming → Type 0
-Calm a = calm (a .mode) ≡ true
-
-disarmed-fits : (ps : List Role) (l : List Arming) → calm (modeAt role.Moved l) ≡ true → calm (modeAt role.Moved (disarmed ps l)) ≡ true
-disarmed-fits [] l h = h
-disarmed-fits (p ∷ ps) l h = disarmed-fits ps (set l (placeOf p) unarmed) (set-holds Calm unarmed unarmed l (placeOf p) 3 h (λ e. refl))
-
--- where no hold is made, and where it is made at another point than 50
-unheld : (p : Role) (m : Mode) → calm m ≡ true → holdInRange (holdAfter p m) ≡ true
-unheld p mode.None h = refl
-unheld p mode.Notify h = refl
-unheld p mode.Interrupted h = cc
-
-elsewhere : (p : Role) (m : Mode) → not (isRole p role.Moved) ≡ true → holdInRange (holdAfter p m) ≡ true
-elsewhere p mode.None h = refl
-elsewhere p mode.Notify h = refl
-elsewhere p mode.Interrupted h = h
-
-hold-fits : (p : Role) (l : List Arming) → calm (modeAt role.Moved l) ≡ true → holdInRange (holdAfter p (modeAt p l)) ≡ true
-hold-fits p l h = go (isRole p role.Moved) refl
-  where
-    go : (b : Bool) → isRole p role.Moved ≡ b → holdInRange (holdAfter p (modeAt p l)) ≡ true
-    go true e = unheld p (modeAt p l) (subst (λ (n : ℕ). Calm (getD l n unarmed)) (sym (eqb-true (placeOf p) 3 e)) h)
-    go false e = elsewhere p (modeAt p l) (ap not e)
-
--- 50 takes no mode 0
-mode-fits : (p : Role) (m : ℕ) → isModeFor p m ≡ true → placeOf p ≡ 3 → calm (modeOf m) ≡ true
-mode-fits p m h e = go (eqb m 0) (eqb m 1) refl
-  where
-    go : (b c : Bool) → eqb m 0 ≡ b → calm (cond b mode.Interrupted (cond c mode.Notify mode.None)) ≡ true
-    go true c k = absurd (let z : false ≡ true = rw (eq-eqb (placeOf p) 3 e, k) at (and-right (leb m 2) (not (isRole p role.Moved && eqb m 0)) h) in let y : _≡_ {A = ℕ} 0 1 = cc in omega arith)
-    go false true k = refl
-    go false false k = refl
+-- a point of the call, armed in a mode that it may have
+armed-one : (dp : PointSet) (p : Role) (m : ℕ) (a : List Arming) → isIn dp p ≡ true → isModeFor p m ≡ true → armingsInRange dp a ≡ true → armingsInRange dp (set a (placeOf p) (record { mode = modeOf m })) ≡ true
+armed-one dp p m a on good h =
+    let x : Arming = record { mode = modeOf m } in
+    armings-fit dp (set a (placeOf p) x)
+    (λ q. set-holds (λ (y : Arming). (isIn dp q || isMode (y .mode) mode.None) ≡ true) unarmed x a (placeOf p) (placeOf q) (in-set dp a h q) (λ e. rw (← place-injective p q e, on)))
+    (set-holds (λ (y : Arming). not (isMode (y .mode) mode.Interrupted) ≡ true) unarmed x a (placeOf p) (placeOf role.Moved) (calm dp a h) (λ e. mode-fits m (rw (place-injective p role.Moved e) at good)))
 
 kept-fits : (b : Bool) (timer kept : Seconds) → isTimer timer ≡ true → isTimer kept ≡ true → isTimer (cond b kept timer) ≡ true
 kept-fits true timer kept h g = g
 kept-fits false timer kept h g = h
 
-entry-fits : (r : Record) (x : Named) (seen : List Bool) (e : Entry) → Fits r → isGood x seen e ≡ true → Fits (armedBy r x e)
-entry-fits r Unknown seen e f h = f
-entry-fits r (Known p) seen e f h =
-    let g = each (isModeFor p (e .mode)) (isTimerFor p (e .mode) (e .timer) ∷ not (getD seen (placeOf p) false) ∷ []) h in
-    armed-fits r f (set (r .armings) (placeOf p) (record { mode = modeOf (e .mode) })) (keptAfter (e .timer) (r .kept))
-    (set-holds Calm unarmed (record { mode = modeOf (e .mode) }) (r .armings) (placeOf p) 3 (f .armings) (mode-fits p (e .mode) (g 0)))
-    (kept-fits (eqb (e .timer .0) 0) (e .timer) (r .kept) (and-left (isTimer (e .timer)) (eqb (e .timer .0) 0 || (isRole p role.NoAnswer && leb (e .mode) 1)) (g 1)) (f .kept))
+module _ (dp : PointSet) (fit : isPointSet dp ≡ true) where
+  entry-fits : (r : Record) (e : Entry) (x : Named) → named dp e ≡ x → (seen : List Bool) → Fits dp r → isGood x seen e ≡ true → Fits dp (armedBy r x e)
+  entry-fits r e Unknown n seen f h = f
+  entry-fits r e (Known p) n seen f h =
+      let g = each (isModeFor p (e .mode)) (isTimerFor p (e .mode) (e .timer) ∷ not (getD seen (placeOf p) false) ∷ []) h in
+      let on = pair-point (pointIn dp p) (e .leg) (e .point) (role-exactly dp fit p (e .leg) (e .point) .0 n) in
+      armed-fits dp r f (set (r .armings) (placeOf p) (record { mode = modeOf (e .mode) })) (keptAfter (e .timer) (r .kept))
+      (armed-one dp p (e .mode) (r .armings) on (g 0) (f .armings))
+      (kept-fits (eqb (e .timer .0) 0) (e .timer) (r .kept) (and-left (isTimer (e .timer)) (eqb (e .timer .0) 0 || (isRole p role.NoAnswer && leb (e .mode) 1)) (g 1)) (f .kept))
 
-entries-fit : (r : Record) (es : List Entry) (seen : List Bool) → Fits r → areGood seen es ≡ true → Fits (armedWith r es) × (armedWith r es .last ≡ r .last)
-unfolding areGood armedWith
-entries-fit r [] seen f h = (f, refl)
-entries-fit r (e ∷ es) seen f h =
-    let g = isGood (named e) seen e in
-    let rest = areGood (seenAfter (named e) seen) es in
-    let q = entries-fit (armedBy r (named e) e) es (seenAfter (named e) seen) (entry-fits r (named e) seen e f (and-left g rest h)) (and-right g rest h) in
-    (q .0, q .1 ∙ same-last (named e))
-  where
-    same-last : (x : Named) → armedBy r x e .last ≡ r .last
-    same-last Unknown = refl
-    same-last (Known p) = refl
+  entries-fit : (r : Record) (es : List Entry) (seen : List Bool) → Fits dp r → areGood dp seen es ≡ true → Fits dp (armedWith dp r es) × (armedWith dp r es .last ≡ r .last)
+  unfolding areGood armedWith
+  entries-fit r [] seen f h = (f, refl)
+  entries-fit r (e ∷ es) seen f h =
+      let x = named dp e in
+      let g = isGood x seen e in
+      let rest = areGood dp (seenAfter x seen) es in
+      let q = entries-fit (armedBy r x e) es (seenAfter x seen) (entry-fits r e x refl seen f (and-left g rest h)) (and-right g rest h) in
+      (q .0, q .1 ∙ same-last x)
+    where
+      same-last : (x : Named) → armedBy r x e .last ≡ r .last
+      same-last Unknown = refl
+      same-last (Known p) = refl
 
 -- ---- numbers
 
@@ -270,128 +310,132 @@ body-fits body.Abort s rest h = refl
 
 -- ---- steps: what is left of an accepted item at t, where the call is not over
 
-abbrev leftBy : Tenths → Answer → Record → Bool
-leftBy t (answer.Refused n) next = true
-leftBy t (answer.Accepted o) next = o .over || (recordInRange next && eqb (next .last .0) (t .0))
+abbrev pub isLeftWell : PointSet → Tenths → Stepped → Bool
+isLeftWell dp t s = remains (s .answer) true true (inRangeOf dp (s .next) && eqb (s .next .last .0) (t .0))
 
-abbrev pub isLeftWell : Tenths → Stepped → Bool
-isLeftWell t s = leftBy t (s .answer) (s .next)
-
-goes : (next : Record) (t : Tenths) → Fits next → next .last ≡ t → (recordInRange next && eqb (next .last .0) (t .0)) ≡ true
-goes next t f e = rw (in-range next f, eq-eqb (next .last .0) (t .0) (ap (λ (x : Tenths). x .0) e))
-
-either : (b : Bool) (x y : Stepped) (t : Tenths) → isLeftWell t x ≡ true → isLeftWell t y ≡ true → isLeftWell t (cond b x y) ≡ true
-either b x y t = on-cond (λ s. isLeftWell t s ≡ true) b x y
-
-guarded-left : (c : Check) (r : Record) (s : Stepped) (t : Tenths) → (c ≡ Pass → isLeftWell t s ≡ true) → isLeftWell t (guarded c r s) ≡ true
-guarded-left Pass r s t h = h refl
-guarded-left (Fail n) r s t h = refl
+guarded-left : (dp : PointSet) (c : Check) (r : Record) (s : Stepped) (t : Tenths) → (c ≡ Pass → isLeftWell dp t s ≡ true) → isLeftWell dp t (guarded c r s) ≡ true
+guarded-left dp Pass r s t h = h refl
+guarded-left dp (Fail n) r s t h = refl
 
 -- not over, and not earlier than the last time
-module _ (r : Record) (t : Tenths) (f : Fits r) (o : isClockReading t ≡ true) (le : r .last .0 ≤ t .0) where
-  timely : Fits (timed r t)
-  timely = timed-fits r t f o le
+module _ (dp : PointSet) where
+  abbrev LeftWell : Tenths → Stepped → Type 0
+  LeftWell t s = isLeftWell dp t s ≡ true
 
-  met-left : (p : Role) → isLeftWell t (met r p t) ≡ true
+  goes : (next : Record) (t : Tenths) → Fits dp next → next .last ≡ t → (inRangeOf dp next && eqb (next .last .0) (t .0)) ≡ true
+  goes next t f e = rw (in-range dp next f, eq-eqb (next .last .0) (t .0) (ap (λ (x : Tenths). x .0) e))
+
+  either : (b : Bool) (x y : Stepped) (t : Tenths) → LeftWell t x → LeftWell t y → LeftWell t (cond b x y)
+  either b x y t = on-cond (LeftWell t) b x y
+
+module _ (dp : PointSet) (r : Record) (t : Tenths) (f : Fits dp r) (o : isClockReading t ≡ true) (le : r .last .0 ≤ t .0) where
+  timely : Fits dp (timed r t)
+  timely = timed-fits dp r t f o le
+
+  met-left : (p : Role) → LeftWell dp t (met dp r p t)
   unfolding met
   met-left p =
       let m = modeAt p (r .armings) in
-      either (endsCall p m) _ _ t refl
-      (goes (metRecord r p m t) t (record {
-        leg1 = leg-after-fits p One (r .leg1) (r .last) t (f .leg1) le;
-        leg2 = leg-after-fits p Two (r .leg2) (r .last) t (f .leg2) le;
-        hold = hold-fits p (r .armings) (f .armings);
+      either dp (endsCall p m) _ _ t refl
+      (goes dp (metRecord dp r p m t) t (record {
+        leg1 = leg-after-fits dp p One (r .leg1) (r .last) t (f .leg1) le;
+        leg2 = leg-after-fits dp p Two (r .leg2) (r .last) t (f .leg2) le;
+        hold = hold-fits dp p (r .armings) (f .armings);
         last = o;
-        armings = disarmed-fits (disarms p) (r .armings) (f .armings);
+        armings = disarmed-fits dp (disarms dp p) (r .armings) (f .armings);
         kept = f .kept;
         timer = f .timer;
         number = f .number;
       }) refl)
 
-  charged-fits : (l : Leg) (c : Charge) → chargeInRange c t ≡ true → Fits (charged r l c t) × (charged r l c t .last ≡ t)
-  charged-fits One c h = (leg-fits (timed r t) timely One (leg (r .leg1 .presence) c) h, refl)
-  charged-fits Two c h = (leg-fits (timed r t) timely Two (leg (r .leg2 .presence) c) h, refl)
+  charged-fits : (l : Leg) (c : Charge) → chargeInRange c t ≡ true → Fits dp (charged r l c t) × (charged r l c t .last ≡ t)
+  charged-fits One c h = (leg-fits dp (timed r t) timely One (leg (r .leg1 .presence) c) h, refl)
+  charged-fits Two c h = (leg-fits dp (timed r t) timely Two (leg (r .leg2 .presence) c) h, refl)
 
-  continued-left : isLeftWell t (continued r t) ≡ true
+  continued-left : LeftWell dp t (continued dp r t)
   unfolding continued
   continued-left =
       let next = resumed r t in
-      let g = placed-fits (timed r t) timely (r .stage) hold.None refl in
-      either (isPresent (r .leg1 .presence) && isPresent (r .leg2 .presence)) _ _ t
-      (either (isTrigger (r .hold)) _ _ t
-      (goes (armedAs next (next .armings) (record { 0 = 0 })) t (armed-fits next g (next .armings) (record { 0 = 0 }) (g .armings) refl) refl)
-      (goes next t g refl)) refl
+      let g = staged-fits dp (timed r t) timely (r .stage) hold.None refl in
+      either dp (isPresent (r .leg1 .presence) && isPresent (r .leg2 .presence)) _ _ t
+      (either dp (isTrigger (r .hold)) _ _ t
+      (goes dp (armedAs next (next .armings) (record { 0 = 0 })) t (armed-fits dp next g (next .armings) (record { 0 = 0 }) (g .armings) refl) refl)
+      (goes dp next t g refl)) refl
 
-module _ (r : Record) (t : Tenths) (rest : List ℕ) (f : Fits r) (o : isClockReading t ≡ true) where
-  aborted-left : r .last .0 ≤ t .0 → isLeftWell t (aborted r t) ≡ true
+module _ (dp : PointSet) (fit : isPointSet dp ≡ true) (r : Record) (t : Tenths) (rest : List ℕ) (f : Fits dp r) (o : isClockReading t ≡ true) where
+  aborted-left : r .last .0 ≤ t .0 → LeftWell dp t (aborted dp r t)
   unfolding aborted
   aborted-left le =
       let d = dropped r in
-      let g = dropped-fits r f in
-      either (isRelease (r .handling)) _ _ t refl
-      (either (isHeld (r .hold)) _ _ t (continued-left d t g o le) (goes (timed d t) t (timed-fits d t g o le) refl))
+      let g = dropped-fits dp r f in
+      either dp (isRelease (r .handling)) _ _ t refl
+      (either dp (isHeld (r .hold)) _ _ t (continued-left dp d t g o le) (goes dp (timed d t) t (timed-fits dp d t g o le) refl))
 
-  connected-fits : r .last .0 ≤ t .0 → (n : Number) → numberInRange n ≡ true → Fits (connected r n t)
+  connected-fits : r .last .0 ≤ t .0 → (n : Number) → numberInRange n ≡ true → Fits dp (connected r n t)
   connected-fits le n h =
-      let g = timed-fits r t f o le in
-      let p = placed (timed r t) Analysing hold.None in
+      let g = timed-fits dp r t f o le in
+      let p = staged (timed r t) Analysing hold.None in
       let q = withLegs p (r .leg1) (leg Present (r .leg2 .charge)) in
-      numbered-fits q (legs-fit p (placed-fits (timed r t) g Analysing hold.None refl) (r .leg1) (leg Present (r .leg2 .charge)) (g .leg1) (g .leg2)) n h
+      numbered-fits dp q (legs-fit dp p (staged-fits dp (timed r t) g Analysing hold.None refl) (r .leg1) (leg Present (r .leg2 .charge)) (g .leg1) (g .leg2)) n h
 
   -- the first row: the time is not before the last
-  in-time : (k : Kind) → firstOf (row7 r t ∷ drop 1 (rowsOf r k t rest)) ≡ Pass → r .last .0 ≤ t .0
-  in-time k h = ltb-false _ _ (no-row (row7 r t ∷ drop 1 (rowsOf r k t rest)) h 0)
+  in-time : (k : Kind) → firstOf (row7 r t ∷ drop 1 (rowsOf dp r k t rest)) ≡ Pass → r .last .0 ≤ t .0
+  in-time k h = ltb-false _ _ (no-row (row7 r t ∷ drop 1 (rowsOf dp r k t rest)) h 0)
 
-  served-left : (k : Kind) → asksFit k rest ≡ true → firstOf (rowsOf r k t rest) ≡ Pass → isLeftWell t (served r k t rest) ≡ true
+  served-left : (k : Kind) → asksFit k rest ≡ true → firstOf (rowsOf dp r k t rest) ≡ Pass → LeftWell dp t (served dp r k t rest)
   served-left (kind.Setup n s w c) a h = refl
-  served-left (kind.Event p) a h = met-left r t f o (in-time (kind.Event p) h) p
-  served-left (kind.PeriodOver l) a h = let q = charged-fits r t f o (in-time (kind.PeriodOver l) h) l charge.None refl in goes _ t (q .0) (q .1)
+  served-left (kind.Event p) a h = met-left dp r t f o (in-time (kind.Event p) h) p
+  served-left (kind.PeriodOver l) a h = let q = charged-fits dp r t f o (in-time (kind.PeriodOver l) h) l charge.None refl in goes dp _ t (q .0) (q .1)
   served-left (kind.RequestReport n) a h =
       let es = entriesOf n rest in
-      let good = not-false (areGood noneSeen es) (no-row (rowsOf r (kind.RequestReport n) t rest) h 2) in
-      let q = entries-fit (timed r t) es noneSeen (timed-fits r t f o (in-time (kind.RequestReport n) h)) good in
-      goes (armedWith (timed r t) es) t (q .0) (q .1)
-  served-left kind.Continue a h = continued-left r t f o (in-time kind.Continue h)
+      let good = not-false (areGood dp noneSeen es) (no-row (rowsOf dp r (kind.RequestReport n) t rest) h 2) in
+      let q = entries-fit dp fit (timed r t) es noneSeen (timed-fits dp r t f o (in-time (kind.RequestReport n) h)) good in
+      goes dp (armedWith dp (timed r t) es) t (q .0) (q .1)
+  served-left kind.Continue a h = continued-left dp r t f o (in-time kind.Continue h)
   served-left (kind.Connect n c) a h =
       let next = connected r (numberOf n c rest) t in
       let g = connected-fits (in-time (kind.Connect n c) h) (numberOf n c rest) a in
-      goes (armedAs next (next .armings) (record { 0 = 0 })) t (armed-fits next g (next .armings) (record { 0 = 0 }) (g .armings) refl) refl
+      goes dp (armedAs next (next .armings) (record { 0 = 0 })) t (armed-fits dp next g (next .armings) (record { 0 = 0 }) (g .armings) refl) refl
   served-left kind.Release a h = refl
-  served-left (kind.ApplyCharging l p) a h = let q = charged-fits r t f o (in-time (kind.ApplyCharging l p) h) l (granted (r .stage) p t) (granted-fits (r .stage) p t a) in goes _ t (q .0) (q .1)
-  served-left kind.ActivityTest a h = goes (timed r t) t (timed-fits r t f o (in-time kind.ActivityTest h)) refl
+  served-left (kind.ApplyCharging l p) a h = let q = charged-fits dp r t f o (in-time (kind.ApplyCharging l p) h) l (granted (r .stage) p t) (granted-fits (r .stage) p t a) in goes dp _ t (q .0) (q .1)
+  served-left kind.ActivityTest a h = goes dp (timed r t) t (timed-fits dp r t f o (in-time kind.ActivityTest h)) refl
   served-left kind.Abort a h = aborted-left (in-time kind.Abort h)
 
 -- ---- the theorems
 
--- an item in range on a record in range, for the owner who knows both
-pub respond-left : (r : Record) (i : Item) (rest : List ℕ) → recordInRange r ≡ true → itemInRange i rest ≡ true → isLeftWell (i .time) (respondOf r i rest) ≡ true
-unfolding respondOf itemInRange
-respond-left r i rest h g =
+-- an item in range on a record in range, of a call whose points are dp
+respond-in-left : (dp : PointSet) → isPointSet dp ≡ true → (r : Record) (i : Item) (rest : List ℕ) → inRangeOf dp r ≡ true → itemInRange i rest ≡ true → isLeftWell dp (i .time) (respondIn dp r i rest) ≡ true
+unfolding respondIn itemInRange
+respond-in-left dp fit r i rest h g =
     let t = i .time in
     let k = kindOf (i .body) (r .stage) in
     let form = formOf (i .body) in
     let b = allInRange (form .fields) && restInRange (form .rest) rest in
     let o = and-right b (isClockReading t) g in
-    guarded-left (firstOf (row1Time t ∷ rowsOf r k t rest)) r (served r k t rest) t
-    (λ e. served-left r t rest (fits r h) o k (body-fits (i .body) (r .stage) rest (and-left b (isClockReading t) g)) (passes (row1Time t .applies) 1 (firstOf (rowsOf r k t rest)) e .1))
+    guarded-left dp (firstOf (row1Time t ∷ rowsOf dp r k t rest)) r (served dp r k t rest) t
+    (λ e. served-left dp fit r t rest (fits dp r h) o k (body-fits (i .body) (r .stage) rest (and-left b (isClockReading t) g)) (passes (row1Time t .applies) 1 (firstOf (rowsOf dp r k t rest)) e .1))
+
+-- of any call, for the owner who knows both
+pub respond-left : (r : Record) (i : Item) (rest : List ℕ) → recordInRange r ≡ true → itemInRange i rest ≡ true → isLeftWell (setOf r) (i .time) (respondOf r i rest) ≡ true
+respond-left r = respond-in-left (setOf r) originating-fits r
 
 -- any item on any record: what is out of range is refused
-pub step-left : (r : Record) (i : Item) (rest : List ℕ) → isLeftWell (i .time) (stepOf r i rest) ≡ true
+pub step-left : (r : Record) (i : Item) (rest : List ℕ) → isLeftWell (setOf r) (i .time) (stepOf r i rest) ≡ true
 unfolding stepOf
 step-left r i rest =
-    guarded-left (firstOf (row1 i rest ∷ row3 r ∷ [])) r (respondOf r i rest) (i .time)
+    guarded-left (setOf r) (firstOf (row1 i rest ∷ row3 r ∷ [])) r (respondOf r i rest) (i .time)
     (λ e. let q = no-row (row1 i rest ∷ row3 r ∷ []) e in respond-left r i rest (not-false (recordInRange r) (q 1)) (not-false (itemInRange i rest) (q 0)))
 
 -- a Setup that opens a call
-begun-left : (b : Bool) (timer : Seconds) (handling : Handling) (n : Number) (t : Tenths) → isDefaultTimer timer ≡ true → isClockReading t ≡ true → numberInRange n ≡ true → isLeftWell t (begun b timer handling n t) ≡ true
-begun-left b timer handling n t h o g = go b
+begun-left : (dp : PointSet) (b : Bool) (timer : Seconds) (handling : Handling) (n : Number) (t : Tenths) → isDefaultTimer timer ≡ true → isClockReading t ≡ true → numberInRange n ≡ true → isLeftWell dp t (begun dp b timer handling n t) ≡ true
+begun-left dp b timer handling n t h o g = go b
   where
-    new : (x : Hold) → holdInRange x ≡ true → Fits (opened timer handling n x t)
-    new x k = record { leg1 = refl; leg2 = refl; hold = k; last = o; armings = refl; kept = refl; timer = h; number = g }
+    new : (x : Hold) → holdInRange dp x ≡ true → Fits dp (opened timer handling n x t)
+    new x k = record { leg1 = refl; leg2 = refl; hold = k; last = o; armings = none-fits dp; kept = refl; timer = h; number = g }
 
-    go : (b : Bool) → isLeftWell t (begun b timer handling n t) ≡ true
-    go true = goes (opened timer handling n hold.Trigger t) t (new hold.Trigger refl) refl
-    go false = goes (opened timer handling n hold.None t) t (new hold.None refl) refl
+    go : (b : Bool) → isLeftWell dp t (begun dp b timer handling n t) ≡ true
+    go true = goes dp (opened timer handling n hold.Trigger t) t (new hold.Trigger refl) refl
+    go false = goes dp (opened timer handling n hold.None t) t (new hold.None refl) refl
 
 -- each field of a list that is in range
 field-at : (l : List Field) (i : ℕ) → allInRange l ≡ true → getD l i (byte 0 true) .inRange ≡ true
@@ -406,11 +450,11 @@ profile-fits s h =
     let g = and-right (same (profileBytes p) s) (profileInRange p) h in
     field-at (fieldsOf p) 1 (and-left (allInRange (fieldsOf p)) (senseInRange (p .sense) (length (p .numbers) + length (p .lengths))) g)
 
-open-as-left : (k : Kind) (s : List ℕ) (t : Tenths) (rest : List ℕ) → isClockReading t ≡ true → asksFit k rest ≡ true → isLeftWell t (openAs k s t rest) ≡ true
+open-as-left : (k : Kind) (s : List ℕ) (t : Tenths) (rest : List ℕ) → isClockReading t ≡ true → asksFit k rest ≡ true → isLeftWell originating t (openAs k s t rest) ≡ true
 open-as-left (kind.Setup n v w c) s t rest o a =
     let p = profileOf s in
-    guarded-left (firstOf (row2 s ∷ [])) _ (begun (triggers p n v w rest) (p .timer) (p .handling) (numberOf n c rest) t) t
-    (λ e. begun-left (triggers p n v w rest) (p .timer) (p .handling) (numberOf n c rest) t (profile-fits s (not-false (isProfile p s) (no-row (row2 s ∷ []) e 0))) o a)
+    guarded-left originating (firstOf (row2 s ∷ [])) _ (begun originating (triggers p n v w rest) (p .timer) (p .handling) (numberOf n c rest) t) t
+    (λ e. begun-left originating (triggers p n v w rest) (p .timer) (p .handling) (numberOf n c rest) t (profile-fits s (not-false (isProfile p s) (no-row (row2 s ∷ []) e 0))) o a)
 open-as-left (kind.Event p) s t rest o a = refl
 open-as-left (kind.PeriodOver l) s t rest o a = refl
 open-as-left (kind.RequestReport n) s t rest o a = refl
@@ -421,13 +465,13 @@ open-as-left (kind.ApplyCharging l p) s t rest o a = refl
 open-as-left kind.ActivityTest s t rest o a = refl
 open-as-left kind.Abort s t rest o a = refl
 
-pub open-left : (i : Item) (rest s : List ℕ) → isLeftWell (i .time) (openOf i rest s) ≡ true
+pub open-left : (i : Item) (rest s : List ℕ) → isLeftWell originating (i .time) (openOf i rest s) ≡ true
 unfolding openOf itemInRange
 open-left i rest s =
     let t = i .time in
     let k = kindOf (i .body) Analysing in
     let form = formOf (i .body) in
     let b = allInRange (form .fields) && restInRange (form .rest) rest in
-    guarded-left (firstOf (row1 i rest ∷ [])) _ (openAs k s t rest) t
+    guarded-left originating (firstOf (row1 i rest ∷ [])) _ (openAs k s t rest) t
     (λ e. let g = not-false (b && isClockReading t) (no-row (row1 i rest ∷ []) e 0) in
     open-as-left k s t rest (and-right b (isClockReading t) g) (body-fits (i .body) Analysing rest (and-left b (isClockReading t) g)))

@@ -15,18 +15,17 @@ use Rattle.forms.specs.Bytes.{pad}
 use Rattle.forms.specs.Item.{formOf, restInRange, itemInRange, entryOf}
 use Rattle.forms.specs.Profile.{viewOf, profileOf, isProfile, readProfile}
 use Rattle.forms.specs.Units.{clockEnd}
-use Rattle.call.specs.Types.{Entry, Item, Tenths, Mode, Arming, Named, Record, Check}
+use Rattle.call.specs.Types.{Entry, Item, Tenths, PointSet, Mode, Arming, Named, Record, Check}
 use Rattle.forms.specs.declared.profile.ProfileView.{ProfileView}
 use Rattle.forms.specs.declared.profile.ReadProfile.the-variants.{Profile, Refused}
 use Rattle.forms.proofs.ByteLaws.{and-right}
 use Rattle.forms.proofs.ItemLaws.{item-size}
-use Rattle.call.specs.declared.answers.Check.the-variants.{Pass, Fail}
+use Rattle.call.specs.declared.refusals.Check.the-variants.{Pass, Fail}
 use Rattle.call.specs.declared.points.Named.the-variants.{Unknown, Known}
-use Rattle.call.specs.Points.{unarmed}
+use Rattle.call.specs.Armings.{unarmed, isMode, someArmed}
 use Rattle.call.specs.Record.{armedAs}
-use Rattle.call.specs.Relationship.{isMode, someArmed}
 use Rattle.call.specs.Answers.{Row, row, firstOf}
-use Rattle.call.specs.Arming.{entriesOf, named, isGood, placeNamed, seenAfter, areGood, isPossible, arePossible, armingAfter, keptFor, armedBy, armedWith}
+use Rattle.call.specs.Request.{entriesOf, named, isGood, placeNamed, seenAfter, areGood, isPossible, arePossible, armingAfter, keptFor, armedBy, armedWith}
 use Rattle.call.specs.Range.{placesInRange}
 
 -- ---- what holds of both holds of whichever is taken
@@ -110,16 +109,6 @@ armed-end m a i found h = rw (drop-of-length-le a h, or-false)
 
 -- ---- loops over the places of a number
 
--- a byte more
-pub pad-next : (n : ℕ) (s : List ℕ) → pad (suc n) s ≡ pad n s ++ (getD s n 0 ∷ [])
-pad-next zero [] = refl
-pad-next zero (x ∷ s) = refl
-pad-next (suc n) [] = ap (λ (l : List ℕ). 0 ∷ l) (pad-next n [])
-pad-next (suc n) (x ∷ s) = ap (λ (l : List ℕ). x ∷ l) (pad-next n s)
-
-pub pad-step : (d s : List ℕ) (i : ℕ) → i < length d → take i d ≡ pad i s → take (i + 1) (set d i (getD s i 0)) ≡ pad (i + 1) s
-pad-step d s i h e = rw (add-one, take-suc-set d i (getD s i 0) h, e) (sym (pad-next i s))
-
 place-next : (c d : ℕ) (ds : List ℕ) → placesInRange c (d ∷ ds) ≡ (cond (ltb 0 c) (isDigit d) (eqb d 0) && placesInRange (c - 1) ds)
 unfolding placesInRange
 place-next zero d ds = refl
@@ -151,7 +140,7 @@ arm-named : (r : Record) (x : Named) (e : Entry) → stored r x e ≡ armedBy r 
 arm-named r Unknown e = rw (set-getD (r .armings) 0 unarmed)
 arm-named r (Known p) e = refl
 
-module _ (n i : ℕ) (t : List ℕ) where
+module _ (dp : PointSet) (n i : ℕ) (t : List ℕ) where
   abbrev from : List Entry
   from = entriesOf (n - i) (drop (i * 5) t)
 
@@ -169,35 +158,35 @@ module _ (n i : ℕ) (t : List ℕ) where
         let k : i * 5 + 5 ≡ (i + 1) * 5 = omega arith in
         rw (e, drop-drop 5 (i * 5) t, k)
 
-    pub good-step : (seen : List Bool) → isGood (named entry) seen entry ≡ true → areGood (set seen (placeNamed (named entry)) true) next ≡ areGood seen from
+    pub good-step : (seen : List Bool) → isGood (named dp entry) seen entry ≡ true → areGood dp (set seen (placeNamed (named dp entry)) true) next ≡ areGood dp seen from
     unfolding areGood
-    good-step seen g = rw (see-named (named entry) seen entry g, entries-next, g)
+    good-step seen g = rw (see-named (named dp entry) seen entry g, entries-next, g)
 
-    pub good-stop : (seen : List Bool) → isGood (named entry) seen entry ≡ false → areGood seen from ≡ false
+    pub good-stop : (seen : List Bool) → isGood (named dp entry) seen entry ≡ false → areGood dp seen from ≡ false
     unfolding areGood
     good-stop seen g = rw (entries-next, g)
 
-    pub possible-step : (r : Record) (ok : Bool) → (ok && isPossible r (named entry) (entry .mode) && arePossible r next) ≡ (ok && arePossible r from)
+    pub possible-step : (r : Record) (ok : Bool) → (ok && isPossible r (named dp entry) (entry .mode) && arePossible dp r next) ≡ (ok && arePossible dp r from)
     unfolding arePossible
     possible-step r ok = rw (entries-next, and-assoc)
 
-    pub arm-step : (r : Record) → armedWith (stored r (named entry) entry) next ≡ armedWith r from
+    pub arm-step : (r : Record) → armedWith dp (stored r (named dp entry) entry) next ≡ armedWith dp r from
     unfolding armedWith
-    arm-step r = rw (arm-named r (named entry) entry, entries-next)
+    arm-step r = rw (arm-named r (named dp entry) entry, entries-next)
 
   module _ (h : n ≤ i) where
     entries-end : from ≡ []
     unfolding entriesOf
     entries-end = rw (sub-eq-zero-of-le h)
 
-    pub good-end : (seen : List Bool) → areGood seen from ≡ true
+    pub good-end : (seen : List Bool) → areGood dp seen from ≡ true
     unfolding areGood
     good-end seen = rw entries-end
 
-    pub possible-end : (r : Record) (ok : Bool) → (ok && arePossible r from) ≡ ok
+    pub possible-end : (r : Record) (ok : Bool) → (ok && arePossible dp r from) ≡ ok
     unfolding arePossible
     possible-end r ok = rw (entries-end, and-true)
 
-    pub arm-end : (r : Record) → armedWith r from ≡ r
+    pub arm-end : (r : Record) → armedWith dp r from ≡ r
     unfolding armedWith
     arm-end r = rw entries-end

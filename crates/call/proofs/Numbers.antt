@@ -8,20 +8,21 @@ use borrow.Author.Tests.{eqb-true}
 use Rattle.forms.specs.Bytes.{all, contains}
 use Rattle.forms.proofs.ByteLaws.{and-left, and-right}
 use Rattle.forms.specs.Profile.{profileOf, isProfile}
-use Rattle.call.specs.Types.{Item, Tenths, Seconds, Handling, Number, Role, Record, Answer, Stepped, Kind}
-use Rattle.call.specs.declared.record.Stage.the-variants.{Analysing}
+use Rattle.call.specs.Types.{Item, Tenths, Seconds, Handling, PointSet, Number, Role, Record, Answer, Stepped, Kind}
+use Rattle.call.specs.declared.stages.Stage.the-variants.{Analysing}
 use Rattle.call.specs.declared.answers.Answer.the-variants.{Accepted, Refused}
-use Rattle.call.specs.declared.step.Kind.the-variants as kind
-use Rattle.call.specs.Points.{modeAt}
-use Rattle.call.specs.Charging.{isPresent}
-use Rattle.call.specs.Relationship.{isHeld, isTrigger}
-use Rattle.call.specs.Record.{blank, numberOf}
+use Rattle.call.specs.declared.kind.Kind.the-variants as kind
+use Rattle.forms.specs.Profile.{isRelease}
+use Rattle.call.specs.Armings.{modeAt}
+use Rattle.call.specs.Points.{originating}
+use Rattle.call.specs.Record.{setOf, isPresent, isHeld, isTrigger, blank, numberOf}
 use Rattle.call.specs.Answers.{Row, isAccepted, firstOf, guarded}
 use Rattle.call.specs.Trigger.{triggers}
 use Rattle.call.specs.Events.{endsCall, met}
-use Rattle.call.specs.Operations.{dropped, isRelease, continued, aborted}
+use Rattle.call.specs.Operations.{dropped, continued, aborted}
+use Rattle.call.specs.Kind.{kindOf}
 use Rattle.call.specs.Refusals.{row1, row1Time, row2, row3, rowsOf}
-use Rattle.call.specs.Step.{kindOf, served, respondOf, stepOf}
+use Rattle.call.specs.Step.{served, respondIn, respondOf, stepOf}
 use Rattle.call.specs.Setup.{begun, openAs, openOf}
 use Rattle.call.proofs.Laws.{on-cond}
 
@@ -77,31 +78,31 @@ stepNumbers = 1 ∷ 3 ∷ 5 ∷ 7 ∷ 8 ∷ 9 ∷ 10 ∷ 11 ∷ 12 ∷ 13 ∷ 14
 either : (b : Bool) (x y : Stepped) → OneOf respondNumbers x → OneOf respondNumbers y → OneOf respondNumbers (cond b x y)
 either = on-cond (OneOf respondNumbers)
 
-continued-one : (r : Record) (t : Tenths) → OneOf respondNumbers (continued r t)
+continued-one : (dp : PointSet) (r : Record) (t : Tenths) → OneOf respondNumbers (continued dp r t)
 unfolding continued
-continued-one r t = either (isPresent (r .leg1 .presence) && isPresent (r .leg2 .presence)) _ _ (either (isTrigger (r .hold)) _ _ refl refl) refl
+continued-one dp r t = either (isPresent (r .leg1 .presence) && isPresent (r .leg2 .presence)) _ _ (either (isTrigger (r .hold)) _ _ refl refl) refl
 
-module _ (r : Record) (t : Tenths) (rest : List ℕ) where
-  served-one : (k : Kind) → (all (λ n. contains n respondNumbers) (numbers (rowsOf r k t rest)) ≡ true) × OneOf respondNumbers (served r k t rest)
+module _ (dp : PointSet) (r : Record) (t : Tenths) (rest : List ℕ) where
+  served-one : (k : Kind) → (all (λ n. contains n respondNumbers) (numbers (rowsOf dp r k t rest)) ≡ true) × OneOf respondNumbers (served dp r k t rest)
   unfolding all contains met aborted
   served-one (kind.Setup n s w c) = (refl, refl)
   served-one (kind.Event p) = (refl, either (endsCall p (modeAt p (r .armings))) _ _ refl refl)
   served-one (kind.PeriodOver l) = (refl, refl)
   served-one (kind.RequestReport n) = (refl, refl)
-  served-one kind.Continue = (refl, continued-one r t)
+  served-one kind.Continue = (refl, continued-one dp r t)
   served-one (kind.Connect n c) = (refl, refl)
   served-one kind.Release = (refl, refl)
   served-one (kind.ApplyCharging l p) = (refl, refl)
   served-one kind.ActivityTest = (refl, refl)
-  served-one kind.Abort = (refl, either (isRelease (r .handling)) _ _ refl (either (isHeld (r .hold)) _ _ (continued-one (dropped r) t) refl))
+  served-one kind.Abort = (refl, either (isRelease (r .handling)) _ _ refl (either (isHeld (r .hold)) _ _ (continued-one dp (dropped r) t) refl))
 
 module _ (r : Record) (i : Item) (rest : List ℕ) where
   pub respond-numbers : OneOf respondNumbers (respondOf r i rest)
-  unfolding respondOf all contains
+  unfolding respondIn all contains
   respond-numbers =
       let k = kindOf (i .body) (r .stage) in
-      let q = served-one r (i .time) rest k in
-      guarded-one respondNumbers (row1Time (i .time) ∷ rowsOf r k (i .time) rest) r (served r k (i .time) rest) (q .0) (q .1)
+      let q = served-one (setOf r) r (i .time) rest k in
+      guarded-one respondNumbers (row1Time (i .time) ∷ rowsOf (setOf r) r k (i .time) rest) r (served (setOf r) r k (i .time) rest) (q .0) (q .1)
 
   pub step-numbers : OneOf stepNumbers (stepOf r i rest)
   unfolding stepOf all contains
@@ -112,13 +113,13 @@ module _ (r : Record) (i : Item) (rest : List ℕ) where
 abbrev pub openNumbers : List ℕ
 openNumbers = 1 ∷ 2 ∷ 4 ∷ []
 
-begun-one : (b : Bool) (timer : Seconds) (handling : Handling) (number : Number) (t : Tenths) → OneOf openNumbers (begun b timer handling number t)
-begun-one true timer handling number t = refl
-begun-one false timer handling number t = refl
+begun-one : (dp : PointSet) (b : Bool) (timer : Seconds) (handling : Handling) (number : Number) (t : Tenths) → OneOf openNumbers (begun dp b timer handling number t)
+begun-one dp true timer handling number t = refl
+begun-one dp false timer handling number t = refl
 
 opened-one : (k : Kind) (s : List ℕ) (t : Tenths) (rest : List ℕ) → OneOf openNumbers (openAs k s t rest)
 unfolding all contains
-opened-one (kind.Setup n v w c) s t rest = guarded-one openNumbers (row2 s ∷ []) blank _ refl (begun-one (triggers (profileOf s) n v w rest) _ _ _ t)
+opened-one (kind.Setup n v w c) s t rest = guarded-one openNumbers (row2 s ∷ []) blank _ refl (begun-one originating (triggers (profileOf s) n v w rest) _ _ _ t)
 opened-one (kind.Event p) s t rest = refl
 opened-one (kind.PeriodOver l) s t rest = refl
 opened-one (kind.RequestReport n) s t rest = refl

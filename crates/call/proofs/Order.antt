@@ -12,39 +12,26 @@ use borrow.Author.Tests.{ltb-false, eqb-true, not-false}
 use Rattle.forms.specs.Fields.{legNumber}
 use Rattle.forms.specs.Units.{isTimer}
 use Rattle.forms.proofs.ByteLaws.{and-left, and-right}
-use Rattle.call.specs.Types.{Entry, Seconds, Tenths, Role, Named, Record, Stepped}
+use Rattle.call.specs.Types.{Entry, Seconds, Tenths, PointSet, Role, Named, Record, Stepped}
 use Rattle.forms.specs.declared.item.Body.the-variants as body
-use Rattle.call.specs.declared.points.Role.the-variants.{NoAnswer}
+use Rattle.call.specs.declared.roles.Role.the-variants.{NoAnswer}
 use Rattle.call.specs.declared.points.Named.the-variants.{Unknown, Known}
-use Rattle.call.specs.declared.answers.Check.the-variants.{Pass}
-use Rattle.call.specs.declared.step.Kind.the-variants as kind
-use Rattle.call.specs.Points.{roles, placeOf, isRole, pointOf, legOf, roleIn}
-use Rattle.call.specs.Record.{timed, armedAs}
-use Rattle.call.specs.Relationship.{modeOf}
+use Rattle.call.specs.declared.refusals.Check.the-variants.{Pass}
+use Rattle.call.specs.declared.kind.Kind.the-variants as kind
+use Rattle.call.specs.Roles.{placeOf, isRole}
+use Rattle.call.specs.Armings.{modeOf}
+use Rattle.call.specs.Points.{pointIn, isPointSet}
+use Rattle.call.specs.Record.{setOf, timed, armedAs}
 use Rattle.call.specs.Answers.{Row, isAccepted, firstOf, guarded}
-use Rattle.call.specs.Arming.{entriesOf, named, isModeFor, isGood, seenAfter, areGood, noneSeen, keptAfter, armedBy, armedWith, requestReport}
+use Rattle.call.specs.Request.{entriesOf, named, isModeFor, isGood, seenAfter, areGood, noneSeen, keptAfter, armedBy, armedWith, requestReport}
 use Rattle.call.specs.Refusals.{row1Time, rowsOf}
-use Rattle.call.specs.Step.{respondOf}
-use Rattle.call.proofs.Laws.{same-tenths, no-row}
+use Rattle.call.specs.Step.{respondIn}
 use Rattle.call.specs.Order.{Request, entries, Apart, Disjoint, asked, inTurn, BothAccepted}
-use Rattle.call.proofs.CallTheorems.{place-injective, not-refused}
+use Rattle.call.proofs.Laws.{same-tenths, no-row}
+use Rattle.call.proofs.PointLaws.{place-injective, pair-numbers, originating-fits, role-exactly}
+use Rattle.call.proofs.CallTheorems.{not-refused}
 
 -- ---- two entries
-
--- the leg and the point are those of the role p
-abbrev IsPair : ℕ → ℕ → Role → Type 0
-IsPair leg point p = (leg ≡ legNumber (legOf p)) × (point ≡ pointOf p .number)
-
-named-pair : (ps : List Role) (leg point : ℕ) (p : Role) → roleIn ps leg point ≡ Known p → IsPair leg point p
-named-pair [] leg point p h = absurd (let z : _≡_ {A = ℕ} 0 1 = cc in omega arith)
-named-pair (q ∷ ps) leg point p h = go (eqb leg (legNumber (legOf q)) && eqb point (pointOf q .number)) refl (λ k. named-pair ps leg point p k) h
-  where
-    go : (b : Bool) → (eqb leg (legNumber (legOf q)) && eqb point (pointOf q .number)) ≡ b → (roleIn ps leg point ≡ Known p → IsPair leg point p)
-        → cond b (Known q) (roleIn ps leg point) ≡ Known p → IsPair leg point p
-    go true e below k =
-        let same : q ≡ p = cc in
-        rw (← same) (eqb-true _ _ (and-left _ (eqb point (pointOf q .number)) e), eqb-true _ _ (and-right (eqb leg (legNumber (legOf q))) _ e))
-    go false e below k = below k
 
 -- only No answer has a timer
 abbrev Timed : Role → Entry → Type 0
@@ -61,43 +48,44 @@ kept-swap p q e f k (inr x) (inr y) d = absurd (d (x ∙ sym y))
 abbrev Sound : Named → Entry → Type 0
 Sound x e = (p : Role) → x ≡ Known p → Timed p e
 
-entry-swap : (x y : Named) (e f : Entry) → named e ≡ x → named f ≡ y → Sound x e → Sound y f → Apart e f
+entry-swap : (dp : PointSet) → isPointSet dp ≡ true → (x y : Named) (e f : Entry) → named dp e ≡ x → named dp f ≡ y → Sound x e → Sound y f → Apart e f
     → (r : Record) → armedBy (armedBy r x e) y f ≡ armedBy (armedBy r y f) x e
-entry-swap Unknown y e f h k a b d r = refl
-entry-swap (Known p) Unknown e f h k a b d r = refl
-entry-swap (Known p) (Known q) e f h k a b d r =
-    let x = named-pair roles (e .leg) (e .point) p h in
-    let y = named-pair roles (f .leg) (f .point) q k in
-    let apart : placeOf p ≡ placeOf q → ⊥ = λ z. let same = place-injective p q z in d (x .0 ∙ ap (λ s. legNumber (legOf s)) same ∙ sym (y .0)) (x .1 ∙ ap (λ s. pointOf s .number) same ∙ sym (y .1)) in
+entry-swap dp fit Unknown y e f h k a b d r = refl
+entry-swap dp fit (Known p) Unknown e f h k a b d r = refl
+entry-swap dp fit (Known p) (Known q) e f h k a b d r =
+    let x = pair-numbers (pointIn dp p) (e .leg) (e .point) (role-exactly dp fit p (e .leg) (e .point) .0 h) in
+    let y = pair-numbers (pointIn dp q) (f .leg) (f .point) (role-exactly dp fit q (f .leg) (f .point) .0 k) in
+    let apart : placeOf p ≡ placeOf q → ⊥ = λ z. let same = ap (pointIn dp) (place-injective p q z) in d (x .0 ∙ ap (λ s. legNumber (s .leg)) same ∙ sym (y .0)) (x .1 ∙ ap (λ s. s .number) same ∙ sym (y .1)) in
     let armings = set-comm (r .armings) (placeOf p) (placeOf q) (record { mode = modeOf (e .mode) }) (record { mode = modeOf (f .mode) }) apart in
     let kept = kept-swap p q e f (r .kept) (a p refl) (b q refl) apart in
     λ i. armedAs r (armings i) (kept i)
 
 -- ---- two lists of entries
 
--- what changes place with each entry does so with all
-past : (g : Record → Record) (es : List Entry) → ((e : Entry) → In e es → (r : Record) → armedBy (g r) (named e) e ≡ g (armedBy r (named e) e))
-    → (r : Record) → armedWith (g r) es ≡ g (armedWith r es)
-unfolding armedWith
-past g [] h r = refl
-past g (e ∷ es) h r = ap (λ x. armedWith x es) (h e (In·head refl) r) ∙ past g es (λ f m. h f (In·tail m)) (armedBy r (named e) e)
+module _ (dp : PointSet) where
+  -- what changes place with each entry does so with all
+  past : (g : Record → Record) (es : List Entry) → ((e : Entry) → In e es → (r : Record) → armedBy (g r) (named dp e) e ≡ g (armedBy r (named dp e) e))
+      → (r : Record) → armedWith dp (g r) es ≡ g (armedWith dp r es)
+  unfolding armedWith
+  past g [] h r = refl
+  past g (e ∷ es) h r = ap (λ x. armedWith dp x es) (h e (In·head refl) r) ∙ past g es (λ f m. h f (In·tail m)) (armedBy r (named dp e) e)
 
--- two lists change places where each entry of one does with each of the other
-swap : (es fs : List Entry) → ((e f : Entry) → In e es → In f fs → (r : Record) → armedBy (armedBy r (named e) e) (named f) f ≡ armedBy (armedBy r (named f) f) (named e) e)
-    → (r : Record) → armedWith (armedWith r es) fs ≡ armedWith (armedWith r fs) es
-unfolding armedWith
-swap [] fs h r = refl
-swap (e ∷ es) fs h r =
-    swap es fs (λ x f m. h x f (In·tail m)) (armedBy r (named e) e)
-    ∙ ap (λ x. armedWith x es) (past (λ s. armedBy s (named e) e) fs (λ f m. h e f (In·head refl) m) r)
+  -- two lists change places where each entry of one does with each of the other
+  swap : (es fs : List Entry) → ((e f : Entry) → In e es → In f fs → (r : Record) → armedBy (armedBy r (named dp e) e) (named dp f) f ≡ armedBy (armedBy r (named dp f) f) (named dp e) e)
+      → (r : Record) → armedWith dp (armedWith dp r es) fs ≡ armedWith dp (armedWith dp r fs) es
+  unfolding armedWith
+  swap [] fs h r = refl
+  swap (e ∷ es) fs h r =
+      swap es fs (λ x f m. h x f (In·tail m)) (armedBy r (named dp e) e)
+      ∙ ap (λ x. armedWith dp x es) (past (λ s. armedBy s (named dp e) e) fs (λ f m. h e f (In·head refl) m) r)
 
--- the time changes place with them
-armed-timed : (es : List Entry) (r : Record) (t : Tenths) → armedWith (timed r t) es ≡ timed (armedWith r es) t
-armed-timed es r t = past (λ s. timed s t) es (λ e m s. go (named e) e s) r
-  where
-    go : (x : Named) (e : Entry) (s : Record) → armedBy (timed s t) x e ≡ timed (armedBy s x e) t
-    go Unknown e s = refl
-    go (Known p) e s = refl
+  -- the time changes place with them
+  armed-timed : (es : List Entry) (r : Record) (t : Tenths) → armedWith dp (timed r t) es ≡ timed (armedWith dp r es) t
+  armed-timed es r t = past (λ s. timed s t) es (λ e m s. go (named dp e) e s) r
+    where
+      go : (x : Named) (e : Entry) (s : Record) → armedBy (timed s t) x e ≡ timed (armedBy s x e) t
+      go Unknown e s = refl
+      go (Known p) e s = refl
 
 -- ---- what acceptance tells
 
@@ -114,55 +102,68 @@ entry-sound (Known q) seen e g p k = let same : q ≡ p = cc in rw (← same) (g
     go false false c x y h = absurd (false≢true h)
 
 -- every entry of a list that passes row 11 is sound
-good-sound : {e : Entry} {es : List Entry} → In e es → (seen : List Bool) → areGood seen es ≡ true → Sound (named e) e
+good-sound : (dp : PointSet) {e : Entry} {es : List Entry} → In e es → (seen : List Bool) → areGood dp seen es ≡ true → Sound (named dp e) e
 unfolding areGood
-good-sound (In·head {x = x} {xs = es} h) seen g = subst (λ y. Sound (named y) y) (sym h) (entry-sound (named x) seen x (and-left _ (areGood (seenAfter (named x) seen) es) g))
-good-sound (In·tail {x = x} m) seen g = good-sound m (seenAfter (named x) seen) (and-right (isGood (named x) seen x) _ g)
+good-sound dp (In·head {x = x} {xs = es} h) seen g = subst (λ y. Sound (named dp y) y) (sym h) (entry-sound (named dp x) seen x (and-left _ (areGood dp (seenAfter (named dp x) seen) es) g))
+good-sound dp (In·tail {x = x} m) seen g = good-sound dp m (seenAfter (named dp x) seen) (and-right (isGood (named dp x) seen x) _ g)
 
--- the rows that a request meets
-abbrev rows : Record → Request → Tenths → List Row
-rows r a t = row1Time t ∷ rowsOf r (kind.RequestReport (a .count)) t (a .bytes)
+-- the answer to a request, of a call whose points are dp
+abbrev askedIn : PointSet → ℕ → Record → Request → Tenths → Stepped
+askedIn dp n r a t = respondIn dp r (record { call = n; time = t; body = body.RequestReport (a .count) }) (a .bytes)
 
-module _ (n : ℕ) (r : Record) (a : Request) (t : Tenths) (h : isAccepted (asked n r a t .answer) ≡ true) where
-  none-applies : firstOf (rows r a t) ≡ Pass
-  unfolding respondOf
-  none-applies = not-refused (firstOf (rows r a t)) r (requestReport r (a .count) (a .bytes) t) h
+-- the rows that it meets
+abbrev rows : PointSet → Record → Request → Tenths → List Row
+rows dp r a t = row1Time t ∷ rowsOf dp r (kind.RequestReport (a .count)) t (a .bytes)
 
-  accepted-next : asked n r a t .next ≡ armedWith (timed r t) (entries a)
-  unfolding respondOf
-  accepted-next = ap (λ c. guarded c r (requestReport r (a .count) (a .bytes) t) .next) none-applies
+module _ (dp : PointSet) (n : ℕ) (r : Record) (a : Request) (t : Tenths) (h : isAccepted (askedIn dp n r a t .answer) ≡ true) where
+  none-applies : firstOf (rows dp r a t) ≡ Pass
+  unfolding respondIn
+  none-applies = not-refused (firstOf (rows dp r a t)) r (requestReport dp r (a .count) (a .bytes) t) h
+
+  accepted-next : askedIn dp n r a t .next ≡ armedWith dp (timed r t) (entries a)
+  unfolding respondIn
+  accepted-next = ap (λ c. guarded c r (requestReport dp r (a .count) (a .bytes) t) .next) none-applies
 
   -- row 11 is the fourth, row 7 the second
-  accepted-sound : (e : Entry) → In e (entries a) → Sound (named e) e
-  accepted-sound e m = good-sound m noneSeen (not-false _ (no-row (rows r a t) none-applies 3))
+  accepted-sound : (e : Entry) → In e (entries a) → Sound (named dp e) e
+  accepted-sound e m = good-sound dp m noneSeen (not-false _ (no-row (rows dp r a t) none-applies 3))
 
   accepted-time : r .last .0 ≤ t .0
-  accepted-time = ltb-false _ _ (no-row (rows r a t) none-applies 1)
+  accepted-time = ltb-false _ _ (no-row (rows dp r a t) none-applies 1)
 
-module _ (n : ℕ) (r : Record) (a b : Request) (t u : Tenths) (x : BothAccepted n r a t b u) where
-  both-next : inTurn n r a t b u .next ≡ armedWith (armedWith (timed r u) (entries a)) (entries b)
+-- one after the other, both accepted: a at t, and then b at u
+module _ (dp : PointSet) (n : ℕ) (r : Record) (a b : Request) (t u : Tenths)
+    (first : isAccepted (askedIn dp n r a t .answer) ≡ true) (second : isAccepted (askedIn dp n (askedIn dp n r a t .next) b u .answer) ≡ true) where
+  both-next : askedIn dp n (askedIn dp n r a t .next) b u .next ≡ armedWith dp (armedWith dp (timed r u) (entries a)) (entries b)
   both-next =
-      accepted-next n (asked n r a t .next) b u (x .second)
-      ∙ ap (λ s. armedWith (timed s u) (entries b)) (accepted-next n r a t (x .first))
-      ∙ ap (λ s. armedWith s (entries b)) (sym (armed-timed (entries a) (timed r t) u))
+      accepted-next dp n (askedIn dp n r a t .next) b u second
+      ∙ ap (λ s. armedWith dp (timed s u) (entries b)) (accepted-next dp n r a t first)
+      ∙ ap (λ s. armedWith dp s (entries b)) (sym (armed-timed dp (entries a) (timed r t) u))
 
   both-times : t .0 ≤ u .0
   both-times =
-      rw (ap (λ s. s .last) (accepted-next n r a t (x .first) ∙ armed-timed (entries a) r t)) at (accepted-time n (asked n r a t .next) b u (x .second))
+      rw (ap (λ s. s .last) (accepted-next dp n r a t first ∙ armed-timed dp (entries a) r t)) at (accepted-time dp n (askedIn dp n r a t .next) b u second)
 
 -- ---- the theorem
+
+-- over any point set
+in-either-order : (dp : PointSet) → isPointSet dp ≡ true → (n : ℕ) (r : Record) (a b : Request) (t v u : Tenths) → Disjoint a b
+    → isAccepted (askedIn dp n r a t .answer) ≡ true → isAccepted (askedIn dp n (askedIn dp n r a t .next) b u .answer) ≡ true
+    → isAccepted (askedIn dp n r b v .answer) ≡ true → isAccepted (askedIn dp n (askedIn dp n r b v .next) a u .answer) ≡ true
+    → askedIn dp n (askedIn dp n r a t .next) b u .next ≡ askedIn dp n (askedIn dp n r b v .next) a u .next
+in-either-order dp fit n r a b t v u d x y z w =
+    both-next dp n r a b t u x y
+    ∙ swap dp (entries a) (entries b) (λ e f m k. entry-swap dp fit (named dp e) (named dp f) e f refl refl (accepted-sound dp n r a t x e m) (accepted-sound dp n r b v z f k) (d e f m k)) (timed r u)
+    ∙ sym (both-next dp n r b a v u z w)
 
 -- the times go with the places in the order: the second request comes at u, the first at any time
 pub either-order : (n : ℕ) (r : Record) (a b : Request) (t v u : Tenths) → Disjoint a b → BothAccepted n r a t b u → BothAccepted n r b v a u
     → inTurn n r a t b u .next ≡ inTurn n r b v a u .next
-either-order n r a b t v u d x y =
-    both-next n r a b t u x
-    ∙ swap (entries a) (entries b) (λ e f m k. entry-swap (named e) (named f) e f refl refl (accepted-sound n r a t (x .first) e m) (accepted-sound n r b v (y .first) f k) (d e f m k)) (timed r u)
-    ∙ sym (both-next n r b a v u y)
+either-order n r a b t v u d x y = in-either-order (setOf r) originating-fits n r a b t v u d (x .first) (x .second) (y .first) (y .second)
 
 -- the times go with the requests: accepted in both orders, they come at one time
 pub either-order-items : (n : ℕ) (r : Record) (a b : Request) (t u : Tenths) → Disjoint a b → BothAccepted n r a t b u → BothAccepted n r b u a t
     → inTurn n r a t b u .next ≡ inTurn n r b u a t .next
 either-order-items n r a b t u d x y =
-    let same : t ≡ u = same-tenths (omega (arith, both-times n r a b t u x, both-times n r b a u t y)) in
+    let same : t ≡ u = same-tenths (omega (arith, both-times (setOf r) n r a b t u (x .first) (x .second), both-times (setOf r) n r b a u t (y .first) (y .second))) in
     either-order n r a b t u u d x (rw same at y) ∙ ap (λ s. inTurn n r b u a s .next) (sym same)

@@ -14,27 +14,28 @@ use Rattle.forms.specs.declared.profile.Criterion.the-variants as A
 use Rattle.forms.specs.declared.item.Leg.the-variants.{One, Two}
 use Rattle.forms.specs.declared.item.Body.the-variants as B
 use Rattle.forms.specs.declared.profile.Handling.the-variants as D
-use Rattle.call.specs.Types.{Body, Criterion, Item, Handling, Leg, Role, Named, Stage, Presence, Mode, Arming, Hold, Charge, LegState, Number, Record, Report, ChargeReport, Reports, Deadline, Outcome, Answer, Stepped}
-use Rattle.call.specs.declared.points.Role.the-variants as P
+use Rattle.call.specs.Types.{Body, Criterion, Item, Handling, Leg, Role, Point, PointSet, Named, Stage, Presence, Mode, Arming, Hold, Charge, LegState, Number, Record, Report, ChargeReport, Reports, Deadline, Outcome, Answer, Stepped}
+use Rattle.call.specs.declared.roles.Role.the-variants as P
 use Rattle.call.specs.declared.points.Named.the-variants.{Unknown, Known}
-use Rattle.call.specs.declared.record.Stage.the-variants.{Analysing, Alerting, Active}
+use Rattle.call.specs.declared.stages.Stage.the-variants.{Analysing, Alerting, Active}
 use Rattle.call.specs.declared.record.Presence.the-variants.{Absent, Present}
-use Rattle.call.specs.declared.record.Mode.the-variants as M
+use Rattle.call.specs.declared.armings.Mode.the-variants as M
 use Rattle.call.specs.declared.record.Hold.the-variants as H
 use Rattle.call.specs.declared.record.Charge.the-variants.{None, Waiting, Running}
 use Rattle.call.specs.declared.answers.Report.the-variants as R
-use Rattle.call.specs.declared.answers.ChargeReport.the-variants as C
+use Rattle.call.specs.declared.charging.ChargeReport.the-variants as C
 use Rattle.call.specs.declared.answers.Deadline.the-variants as L
 use Rattle.call.specs.declared.answers.Answer.the-variants.{Accepted, Refused}
-use Rattle.call.specs.Points.{pointOf, legOf, roles, roleOf, modeAt, unarmed}
-use Rattle.call.specs.Relationship.{modeOf, isMode, someArmed}
+use Rattle.call.specs.Roles.{roles}
+use Rattle.call.specs.Armings.{modeAt, unarmed, modeOf, isMode, someArmed}
+use Rattle.call.specs.Points.{originating, pointIn, roleIn, isPointSet}
 use Rattle.call.specs.Record.{blank}
-use Rattle.call.specs.Arming.{entriesOf, areGood, arePossible, armedWith}
-use Rattle.call.specs.Events.{met}
-use Rattle.call.specs.Operations.{continued, aborted}
-use Rattle.call.specs.Range.{placesInRange, numberInRange, recordInRange}
 use Rattle.call.specs.Trigger.{triggers}
-use Rattle.call.specs.Step.{respondOf, stepOf}
+use Rattle.call.specs.Request.{entriesOf, areGood, arePossible, armedWith}
+use Rattle.call.specs.Events.{canMeet, met}
+use Rattle.call.specs.Operations.{continued, aborted}
+use Rattle.call.specs.Range.{holdInRange, armingsInRange, placesInRange, numberInRange, inRangeOf, recordInRange}
+use Rattle.call.specs.Step.{respondIn, respondOf, stepOf}
 use Rattle.call.specs.Setup.{openOf}
 
 -- ---- pairs of point and leg, as the listing prints them
@@ -43,8 +44,11 @@ infixr 75 _╱_
 abbrev _╱_ : ℕ → ℕ → ℕ × ℕ
 point ╱ leg = (point, leg)
 
-abbrev pairOf : Role → ℕ × ℕ
-pairOf p = pointOf p .number ╱ legNumber (legOf p)
+abbrev pairOf : Point → ℕ × ℕ
+pairOf q = q .number ╱ legNumber (q .leg)
+
+abbrev pairAt : Role → ℕ × ℕ
+pairAt p = pairOf (pointIn originating p)
 
 -- "Armable: leg 1: 8 Mid-call, 9 Disconnect, 10 Abandon, 50 Moved. Leg 2: 4 Route failure, 5 Busy, 6 No answer, 7 Answer, 9 Disconnect, 19 Seized."
 abbrev pairs : List (ℕ × ℕ)
@@ -57,7 +61,7 @@ known (Known p) x l = (x, p) ∷ l
 
 unfoldable pub namedBelow : ℕ → ℕ → List ((ℕ × ℕ) × Role) → List ((ℕ × ℕ) × Role)
 namedBelow leg zero l = l
-namedBelow leg (suc n) l = namedBelow leg n (known (roleOf leg n) (n ╱ leg) l)
+namedBelow leg (suc n) l = namedBelow leg n (known (roleIn originating leg n) (n ╱ leg) l)
 
 pub armable :
     namedBelow 0 256 [] ++ namedBelow 1 256 [] ++ namedBelow 2 256 [] ++ namedBelow 3 256 []
@@ -67,8 +71,18 @@ pub armable :
 unfolding namedBelow
 armable = refl
 
-pub reported-pairs : map pairOf roles ≡ pairs
+pub reported-pairs : map pairAt roles ≡ pairs
 reported-pairs = refl
+
+-- document 01's set with another point at a place; 5 is Busy's, 4 Route failure's
+abbrev withPoint : ℕ → ℕ → Leg → PointSet
+withPoint place number leg = record { trigger = originating .trigger; points = set (originating .points) place (record { leg = leg; number = number }) }
+
+-- what the test of a description lets pass: another number, and a set without Route failure; and what not: a pair twice, the trigger's number, a failing role on leg 1, a role that is not armable, a number of two bytes
+pub descriptions :
+    map (λ (d : PointSet). isPointSet d) (originating ∷ withPoint 5 13 Two ∷ withPoint 4 0 Two ∷ withPoint 5 6 Two ∷ withPoint 5 2 Two ∷ withPoint 5 5 One ∷ withPoint 5 0 Two ∷ withPoint 5 256 Two ∷ [])
+    ≡ true ∷ true ∷ true ∷ false ∷ false ∷ false ∷ false ∷ false ∷ []
+descriptions = refl
 
 -- "Modes: 0 interrupted, 1 notify and continue, 2 transparent (disarms)."
 pub modes : map modeOf (0 ∷ 1 ∷ 2 ∷ []) ≡ M.Interrupted ∷ M.Notify ∷ M.None ∷ []
@@ -119,6 +133,16 @@ only place m = set (armed M.None) place (record { mode = m })
 abbrev at : Stage → Hold → List Arming → Record
 at stage hold armings = with stage (present None) (present None) hold 1000 armings 0 (to (4 ∷ 9 ∷ []))
 
+-- ---- a role that is no point: in a set without Route failure it has no pair, is met at no stage, and is neither held at nor armed
+
+pub lesser-set :
+    let d = withPoint 4 0 Two in
+    (map (roleIn d 2) (4 ∷ 0 ∷ 5 ∷ []) ≡ Unknown ∷ Unknown ∷ Known P.Busy ∷ [])
+    × (map (canMeet d (at Analysing H.None (armed M.None))) (P.RouteFailure ∷ P.Busy ∷ []) ≡ false ∷ true ∷ [])
+    × (map (holdInRange d) (H.At P.RouteFailure ∷ H.At P.Busy ∷ []) ≡ false ∷ true ∷ [])
+    × (map (λ (place : ℕ). armingsInRange d (only place M.Notify)) (4 ∷ 5 ∷ []) ≡ false ∷ true ∷ [])
+lesser-set = (refl, refl, refl, refl)
+
 -- ---- items of call 7 at a time, and what is seen of their answers
 
 abbrev asked : ℕ → Record → Body → List ℕ → Stepped
@@ -141,9 +165,8 @@ pub data Said : Type 0 where
 
 abbrev told : Report → Said
 told R.None = silent
-told R.Trigger = interrupts (2 ╱ 1)
-told (R.Interrupting p) = interrupts (pairOf p)
-told (R.Notification p) = notifies (pairOf p)
+told (R.Interrupting q) = interrupts (pairOf q)
+told (R.Notification q) = notifies (pairOf q)
 
 abbrev said : Answer → Said
 said (Refused n) = refuses n
@@ -171,7 +194,7 @@ pub met-at :
     ∷ (interrupts (10 ╱ 1) ∷ interrupts (10 ╱ 1) ∷ interrupts (9 ╱ 1) ∷ [])
     ∷ (no ∷ no ∷ interrupts (9 ╱ 2) ∷ [])
     ∷ []
-unfolding someArmed met respondOf
+unfolding someArmed met respondIn
 met-at = refl
 
 -- "An event needs its leg present": each event at a stage that allows it, without leg 1 and without leg 2
@@ -189,7 +212,7 @@ without leg1 leg2 s b = refusal (item (with s leg1 leg2 H.None 1000 (armed M.Non
 pub needs-its-leg :
     (zipped (without gone (present None)) stages events ≡ 0 ∷ 0 ∷ 0 ∷ 0 ∷ 0 ∷ 12 ∷ 12 ∷ 12 ∷ 0 ∷ [])
     × (zipped (without (present None) gone) stages events ≡ 12 ∷ 12 ∷ 12 ∷ 12 ∷ 12 ∷ 0 ∷ 0 ∷ 0 ∷ 12 ∷ [])
-unfolding someArmed met respondOf
+unfolding someArmed met respondIn
 needs-its-leg = (refl, refl)
 
 -- what a met point leaves, where every point was armed: which stay armed; which legs are present; the stage; the point of suspension
@@ -201,7 +224,7 @@ pub record Left : Type 0 where
 
 abbrev armedIn : List Arming → List Role → List (ℕ × ℕ)
 armedIn a [] = []
-armedIn a (p ∷ ps) = cond (isMode (modeAt p a) M.None) (armedIn a ps) (pairOf p ∷ armedIn a ps)
+armedIn a (p ∷ ps) = cond (isMode (modeAt p a) M.None) (armedIn a ps) (pairAt p ∷ armedIn a ps)
 
 abbrev legIn : ℕ → Presence → List ℕ
 legIn n Absent = []
@@ -209,8 +232,8 @@ legIn n Present = n ∷ []
 
 abbrev heldAt : Hold → List (ℕ × ℕ)
 heldAt H.None = []
-heldAt H.Trigger = 2 ╱ 1 ∷ []
-heldAt (H.At p) = pairOf p ∷ []
+heldAt H.Trigger = pairOf (originating .trigger) ∷ []
+heldAt (H.At p) = pairAt p ∷ []
 
 abbrev leftIn : Record → Left
 leftIn r = record { armed = armedIn (r .armings) roles; legs = legIn 1 (r .leg1 .presence) ++ legIn 2 (r .leg2 .presence); stage = r .stage; held = heldAt (r .hold) }
@@ -239,7 +262,7 @@ pub met-leaves :
     ∷ leaves leg1 (1 ∷ []) Active (9 ╱ 2 ∷ [])
     ∷ leaves leg2 (2 ∷ []) Alerting (10 ╱ 1 ∷ [])
     ∷ []
-unfolding someArmed met respondOf
+unfolding someArmed met respondIn
 met-leaves = refl
 
 -- "report by its mode if armed …; none if unarmed"; "If a leg became absent and the mode was not 0, the call is over": each event unarmed and armed for notification, and whether it ends the call
@@ -251,7 +274,7 @@ abbrev seenIn : Mode → Stage → Body → Said × Bool
 seenIn m s b = let a = item (at s H.None (armed m)) b .answer in (said a, isOver a)
 
 pub met-unarmed : zipped (seenIn M.None) stages events ≡ map (λ (b : Bool). (silent, b)) (true ∷ true ∷ true ∷ false ∷ false ∷ false ∷ false ∷ true ∷ true ∷ [])
-unfolding someArmed met respondOf
+unfolding someArmed met respondIn
 met-unarmed = refl
 
 pub met-notified :
@@ -259,7 +282,7 @@ pub met-notified :
     ≡ (notifies (4 ╱ 2), true) ∷ (notifies (5 ╱ 2), true) ∷ (notifies (6 ╱ 2), true) ∷ (notifies (19 ╱ 2), false) ∷ (notifies (7 ╱ 2), false)
     ∷ (notifies (8 ╱ 1), false) ∷ (notifies (50 ╱ 1), false) ∷ (notifies (9 ╱ 1), true) ∷ (notifies (9 ╱ 2), true)
     ∷ []
-unfolding someArmed met respondOf
+unfolding someArmed met respondIn
 met-notified = refl
 
 -- ---- charges at an event: leg 1's runs since 900, leg 2's waits; each with period 600. What is reported of leg 1 and of leg 2, and what is left
@@ -297,13 +320,13 @@ pub charges-held :
     ∷ bills (some 100) none None (waits 600)
     ∷ bills none (some 0) (runs 600 900) None
     ∷ []
-unfolding someArmed met respondOf
+unfolding someArmed met respondIn
 charges-held = refl
 
 pub charges-over :
     map (λ (b : Body). billedIn (item (charging (armed M.Notify) Active) b)) (B.Clear One 16 ∷ B.Clear Two 16 ∷ [])
     ≡ bills (some 100) (some 0) None None ∷ bills (some 100) (some 0) None None ∷ []
-unfolding someArmed met respondOf
+unfolding someArmed met respondIn
 charges-over = refl
 
 -- ---- "Elapsed = smaller of (time − start) and period": leg 1's charge at 900 (its start), 1499, 1500 and 1501, as a Clear of leg 1 reports it; period 600
@@ -311,7 +334,7 @@ charges-over = refl
 pub elapsed-edges :
     map (λ (t : ℕ). reportedIn (asked t (with Active (present (runs 600 900)) (present None) H.None 900 (armed M.None) 0 (to (4 ∷ 9 ∷ []))) (B.Clear One 16) [] .answer)) (900 ∷ 901 ∷ 1499 ∷ 1500 ∷ 1501 ∷ [])
     ≡ (some 0 ∷ none ∷ []) ∷ (some 1 ∷ none ∷ []) ∷ (some 599 ∷ none ∷ []) ∷ (some 600 ∷ none ∷ []) ∷ (some 600 ∷ none ∷ []) ∷ []
-unfolding someArmed met respondOf
+unfolding someArmed met respondIn
 elapsed-edges = refl
 
 -- ---- Request report of one entry
@@ -349,23 +372,23 @@ bad = replicate 5 11
 pub armed-notify :
     map (armedAs 1 0) pairs
     ≡ always ∷ always ∷ beforeActive ∷ always ∷ inAnalysing ∷ beforeActive ∷ beforeActive ∷ beforeActive ∷ always ∷ inAnalysing ∷ []
-unfolding flatten entryOf entriesOf areGood arePossible armedWith someArmed respondOf
+unfolding flatten entryOf entriesOf areGood arePossible armedWith someArmed respondIn
 armed-notify = refl
 
 -- "Point 50 never takes mode 0."
 pub armed-interrupted :
     map (armedAs 0 0) pairs
     ≡ always ∷ always ∷ beforeActive ∷ bad ∷ inAnalysing ∷ beforeActive ∷ beforeActive ∷ beforeActive ∷ always ∷ inAnalysing ∷ []
-unfolding flatten entryOf entriesOf areGood arePossible armedWith someArmed respondOf
+unfolding flatten entryOf entriesOf areGood arePossible armedWith someArmed respondIn
 armed-interrupted = refl
 
 -- mode 2 disarms whatever can occur; there is no mode 3
 pub armed-transparent : map (armedAs 2 0) pairs ≡ replicate 10 (replicate 5 0)
-unfolding flatten entryOf entriesOf areGood arePossible armedWith someArmed respondOf
+unfolding flatten entryOf entriesOf areGood arePossible armedWith someArmed respondIn
 armed-transparent = refl
 
 pub armed-mode-3 : map (armedAs 3 0) pairs ≡ replicate 10 bad
-unfolding flatten entryOf entriesOf areGood arePossible armedWith someArmed respondOf
+unfolding flatten entryOf entriesOf areGood arePossible armedWith someArmed respondIn
 armed-mode-3 = refl
 
 -- "Timer is 0 (none) except for point 6 with mode 0 or 1, where it is 0..2047": each point with timer 1 in mode 1; point 6 in modes 0, 1 and 2
@@ -373,7 +396,7 @@ pub timers :
     (map (λ (x : ℕ × ℕ). requested (at Analysing H.Trigger (armed M.None)) (entry x 1 1 ∷ [])) pairs ≡ 11 ∷ 11 ∷ 11 ∷ 11 ∷ 11 ∷ 11 ∷ 0 ∷ 11 ∷ 11 ∷ 11 ∷ [])
     × (map (λ (x : ℕ × ℕ). requested (at Analysing H.Trigger (armed M.None)) (entry (6 ╱ 2) (x .0) (x .1) ∷ [])) ((0, 2047) ∷ (1, 2047) ∷ (2, 1) ∷ (0, 2048) ∷ (1, 2048) ∷ [])
     ≡ 0 ∷ 0 ∷ 11 ∷ 11 ∷ 11 ∷ [])
-unfolding flatten entryOf entriesOf areGood arePossible armedWith someArmed respondOf
+unfolding flatten entryOf entriesOf areGood arePossible armedWith someArmed respondIn
 timers = (refl, refl)
 
 -- "a pair named twice": both ways round of two pairs, and of one
@@ -381,7 +404,7 @@ pub named-twice :
     map (λ (es : List (List ℕ)). requested (at Analysing H.Trigger (armed M.None)) es)
     ((entry (9 ╱ 1) 1 0 ∷ entry (9 ╱ 2) 1 0 ∷ []) ∷ (entry (9 ╱ 2) 1 0 ∷ entry (9 ╱ 1) 1 0 ∷ []) ∷ (entry (9 ╱ 2) 1 0 ∷ entry (9 ╱ 2) 2 0 ∷ []) ∷ (entry (8 ╱ 1) 1 0 ∷ entry (5 ╱ 2) 1 0 ∷ entry (8 ╱ 1) 1 0 ∷ []) ∷ [])
     ≡ 0 ∷ 0 ∷ 11 ∷ 11 ∷ []
-unfolding flatten entryOf entriesOf areGood arePossible armedWith someArmed respondOf
+unfolding flatten entryOf entriesOf areGood arePossible armedWith someArmed respondIn
 named-twice = refl
 
 -- ---- Numbered refusals: every item in eleven calls
@@ -420,7 +443,7 @@ pub refusals :
     -- held at 9 of leg 1, both legs absent
     × (asks 1000 (with Active gone gone (H.At P.Disconnect1) 1000 (armed M.None) 0 (to (4 ∷ 9 ∷ [])))
     ≡ 5 ∷ 9 ∷ 9 ∷ 9 ∷ 9 ∷ 9 ∷ 9 ∷ 9 ∷ 12 ∷ 9 ∷ 12 ∷ 12 ∷ 12 ∷ 0 ∷ 12 ∷ 0 ∷ 12 ∷ 12 ∷ 0 ∷ 0 ∷ [])
-unfolding entryOf entriesOf areGood arePossible armedWith someArmed met continued aborted respondOf
+unfolding entryOf entriesOf areGood arePossible armedWith someArmed met continued aborted respondIn
 refusals = (refl, refl, refl, refl, refl, refl, refl, refl, refl, refl, refl)
 
 -- ---- what the operations and Period over leave, field by field: the deadline and the next record
@@ -486,7 +509,7 @@ pub operations-leave :
     ∷ (none, with Active (present None) (present (runs 700 1010)) (H.At P.Answer) 1010 armings 0 (to (4 ∷ 9 ∷ [])))
     ∷ (none, with Active (present None) gone (H.At P.Disconnect2) 1500 armings 30 (to (4 ∷ 9 ∷ [])))
     ∷ []
-unfolding entryOf entriesOf areGood arePossible armedWith someArmed continued aborted respondOf
+unfolding entryOf entriesOf areGood arePossible armedWith someArmed continued aborted respondIn
 operations-leave = refl
 
 -- ---- "In range are: …": each field at its last value in range and at its first outside
@@ -523,7 +546,7 @@ unfit =
     ++ (numbered 128 1 (4 ∷ []) ∷ numbered 4 0 [] ∷ numbered 4 16 (replicate 15 4) ∷ numbered 4 1 (15 ∷ []) ∷ numbered 4 1 (4 ∷ 9 ∷ []) ∷ numbered 4 14 (replicate 15 1) ∷ [])
 
 pub in-range : (map recordInRange fits ≡ map (λ (r : Record). true) fits) × (map recordInRange unfit ≡ map (λ (r : Record). false) unfit)
-unfolding placesInRange numberInRange recordInRange
+unfolding placesInRange numberInRange inRangeOf
 in-range = (refl, refl)
 
 -- ---- Triggering: stored are 49, of nature 4, and the length 2; services 8 and 9
@@ -613,5 +636,5 @@ pub stepped :
     map (λ (x : Record × ℕ × Body). refusal (stepOf (x .0) (record { call = 7; time = record { 0 = x .1 }; body = x .2 }) [] .answer))
     ((timed 9, 1000, B.Busy 128) ∷ (timed 9, 999, B.Busy 17) ∷ (timed 10, 999, B.Busy 17) ∷ (timed 10, 281474976710656, B.Answer) ∷ (timed 10, 1000, B.Busy 17) ∷ (timed 10, 1000, B.MidCall 1) ∷ [])
     ≡ 1 ∷ 3 ∷ 7 ∷ 1 ∷ 12 ∷ 0 ∷ []
-unfolding all placesInRange numberInRange recordInRange itemInRange someArmed met respondOf stepOf
+unfolding all placesInRange numberInRange inRangeOf itemInRange someArmed met respondIn stepOf
 stepped = refl

@@ -7,24 +7,21 @@ use lib.ListN.{drop}
 use Rattle.forms.specs.Item.{readItem}
 use Rattle.call.specs.Types.{Item, ReadItem, Record, Answer, Stepped}
 use Rattle.forms.specs.declared.item.ReadItem.the-variants as read
-use Rattle.call.specs.declared.answers.Answer.the-variants.{Accepted, Refused}
-use Rattle.call.specs.Answers.{firstOf, refused, guarded}
+use Rattle.call.specs.declared.answers.Answer.the-variants.{Refused}
+use Rattle.call.specs.Answers.{firstOf, remains, refused, guarded}
 use Rattle.call.specs.Refusals.{row2}
-use Rattle.call.specs.Step.{isSetup, respondOf}
+use Rattle.call.specs.Kind.{isSetup}
+use Rattle.call.specs.Step.{respondOf}
 use Rattle.call.specs.Setup.{openOf}
 
 -- what is handed in: an item's bytes, and those of a profile (a Setup's)
-pub record Fed : Type 0 where
+pub record Input : Type 0 where
   pub item : List ℕ
   pub profile : List ℕ
 
--- "or nothing when the call is over. A refusal leaves what is kept."
-abbrev pub remaining : Option Record → Answer → Record → Option Record
-remaining k (Refused n) next = k
-remaining k (Accepted o) next = cond (o .over) none (some next)
-
+-- the answer, and what is kept after it
 abbrev pub keep : Option Record → Stepped → Answer × Option Record
-keep k s = (s .answer, remaining k (s .answer) (s .next))
+keep k s = (s .answer, remains (s .answer) k none (some (s .next)))
 
 -- "Setup: first any refusal checked before 3; then 5 if a record is kept; else Triggering's answer, …, and a record"
 abbrev pub setupAlone : Option Record → Item → List ℕ → List ℕ → Answer × Option Record

@@ -1,27 +1,11 @@
 -- Document 01, Charging: a leg's pending charge (call period duration), its clock (Tcp) and its report (ApplyChargingReport). Both legs have the same rules.
 use Prim.Native.Nat.{_+_, _-_, min}
-use mathlib.Core.Bool.{Bool, true, false, cond}
+use mathlib.Core.Bool.{Bool, false, cond}
 use lib.Dec.{ltb}
-use Rattle.call.specs.Types.{Tenths, Presence, Charge, LegState, Stage, ChargeReport}
-use Rattle.call.specs.declared.record.Presence.the-variants.{Absent, Present}
+use Rattle.call.specs.Types.{Tenths, Charge, Stage, ChargeReport}
 use Rattle.call.specs.declared.record.Charge.the-variants as charge
-use Rattle.call.specs.declared.answers.ChargeReport.the-variants as due
-use Rattle.call.specs.Points.{isActive}
-
--- ---- a leg: absent or present, and its pending charge
-
-abbrev pub leg : Presence → Charge → LegState
-leg presence charge = record { presence = presence; charge = charge }
-
-abbrev pub isPresent : Presence → Bool
-isPresent Absent = false
-isPresent Present = true
-
--- "one pending charge per leg": none; waiting for the Answer, with its period; running, with its period and its start
-abbrev pub isPending : Charge → Bool
-isPending charge.None = false
-isPending (charge.Waiting period) = true
-isPending (charge.Running period start) = true
+use Rattle.call.specs.declared.charging.ChargeReport.the-variants as due
+use Rattle.call.specs.Roles.{isActive}
 
 -- ---- the clock
 
@@ -34,11 +18,6 @@ answered t (charge.Running period start) = charge.Running period start
 -- "or at once when active": the charge that is accepted at t
 abbrev pub granted : Stage → Tenths → Tenths → Charge
 granted s period t = cond (isActive s) (charge.Running period t) (charge.Waiting period)
-
-abbrev pub isStarted : Charge → Bool
-isStarted charge.None = false
-isStarted (charge.Waiting period) = false
-isStarted (charge.Running period start) = true
 
 -- "before start + period"
 abbrev pub isBeforeEnd : Charge → Tenths → Bool

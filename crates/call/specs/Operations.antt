@@ -1,21 +1,21 @@
 -- Document 01, One call and Charging: what Period over and the operations do, Request report apart.
 use Prim.Native.Nat.{_+_}
-use mathlib.Core.Bool.{Bool, true, false, not, cond, _&&_, _||_}
+use mathlib.Core.Bool.{Bool, not, cond, _&&_, _||_}
 use lib.Dec.{eqb}
+use Rattle.forms.specs.Profile.{isRelease}
 use Rattle.forms.specs.Units.{tenthsOf}
-use Rattle.call.specs.Types.{Leg, Handling, Tenths, Seconds, Charge, LegState, Number, Record, ChargeReport, Reports, Deadline, Stepped}
+use Rattle.call.specs.Types.{Leg, Tenths, Seconds, PointSet, Charge, LegState, Number, Record, ChargeReport, Reports, Deadline, Stepped}
 use Rattle.forms.specs.declared.item.Leg.the-variants.{One, Two}
-use Rattle.forms.specs.declared.profile.Handling.the-variants.{Continue, Release}
 use Rattle.call.specs.declared.record.Presence.the-variants.{Present}
 use Rattle.call.specs.declared.record.Charge.the-variants as charge
-use Rattle.call.specs.declared.record.Stage.the-variants.{Analysing}
+use Rattle.call.specs.declared.stages.Stage.the-variants.{Analysing}
 use Rattle.call.specs.declared.record.Hold.the-variants as hold
 use Rattle.call.specs.declared.answers.Report.the-variants as report
-use Rattle.call.specs.declared.answers.ChargeReport.the-variants as due
+use Rattle.call.specs.declared.charging.ChargeReport.the-variants as due
 use Rattle.call.specs.declared.answers.Deadline.the-variants as deadline
-use Rattle.call.specs.Charging.{leg, isPresent, granted, reportOf}
-use Rattle.call.specs.Relationship.{isHeld, isTrigger}
-use Rattle.call.specs.Record.{noArmings, noTimer, timed, placed, withLegs, legAt, withLeg, armedAs, numbered}
+use Rattle.call.specs.Armings.{noArmings}
+use Rattle.call.specs.Charging.{granted, reportOf}
+use Rattle.call.specs.Record.{leg, isPresent, isHeld, isTrigger, noTimer, timed, staged, withLegs, legAt, withLeg, armedAs, numbered}
 use Rattle.call.specs.Answers.{reports, silent, goesOn, quietly, ended}
 
 -- ---- routing: "deadline = time + kept timer × 10, used once (002), else the profile's default × 10" (TNRy)
@@ -26,18 +26,18 @@ after t s = deadline.At (record { 0 = t .0 + tenthsOf s .0 })
 abbrev pub routeTimer : Record → Seconds
 routeTimer r = cond (eqb (r .kept .0) 0) (r .timer) (r .kept)
 
-abbrev pub routed : Record → Tenths → Stepped
-routed r t = goesOn (armedAs r (r .armings) noTimer) silent (after t (routeTimer r))
+abbrev pub routed : PointSet → Record → Tenths → Stepped
+routed dp r t = goesOn dp (armedAs r (r .armings) noTimer) silent (after t (routeTimer r))
 
 -- ---- "Continue: over if a leg is absent, else resumes"; routing starts "at Continue (or Abort resuming) from a hold at 2"
 
 abbrev pub resumed : Record → Tenths → Record
-resumed r t = placed (timed r t) (r .stage) hold.None
+resumed r t = staged (timed r t) (r .stage) hold.None
 
-unfoldable pub continued : Record → Tenths → Stepped
-continued r t =
+unfoldable pub continued : PointSet → Record → Tenths → Stepped
+continued dp r t =
     cond (isPresent (r .leg1 .presence) && isPresent (r .leg2 .presence))
-    (cond (isTrigger (r .hold)) (routed (resumed r t) t) (quietly (resumed r t)))
+    (cond (isTrigger (r .hold)) (routed dp (resumed r t) t) (quietly dp (resumed r t)))
     (ended r report.None t)
 
 -- ---- "Connect: … leg 2 is present again, stage analysing, number replaced, the hold ends"
@@ -47,7 +47,7 @@ abbrev pub canConnect : Record → Bool
 canConnect r = isTrigger (r .hold) || (isPresent (r .leg1 .presence) && not (isPresent (r .leg2 .presence)))
 
 abbrev pub connected : Record → Number → Tenths → Record
-connected r n t = numbered (withLegs (placed (timed r t) Analysing hold.None) (r .leg1) (leg Present (r .leg2 .charge))) n
+connected r n t = numbered (withLegs (staged (timed r t) Analysing hold.None) (r .leg1) (leg Present (r .leg2 .charge))) n
 
 -- ---- "Abort: all armings, charges and the kept timer dropped unreported; default release: over; else as Continue if held"
 
@@ -57,14 +57,10 @@ uncharged l = leg (l .presence) charge.None
 abbrev pub dropped : Record → Record
 dropped r = armedAs (withLegs r (uncharged (r .leg1)) (uncharged (r .leg2))) noArmings noTimer
 
-abbrev pub isRelease : Handling → Bool
-isRelease Continue = false
-isRelease Release = true
-
-unfoldable pub aborted : Record → Tenths → Stepped
-aborted r t =
+unfoldable pub aborted : PointSet → Record → Tenths → Stepped
+aborted dp r t =
     cond (isRelease (r .handling)) (ended (dropped r) report.None t)
-    (cond (isHeld (r .hold)) (continued (dropped r) t) (quietly (timed (dropped r) t)))
+    (cond (isHeld (r .hold)) (continued dp (dropped r) t) (quietly dp (timed (dropped r) t)))
 
 -- ---- charging
 
@@ -77,8 +73,8 @@ reportOn One c = reports report.None c due.None
 reportOn Two c = reports report.None due.None c
 
 -- "reported and removed when Period over is accepted"
-abbrev pub periodOver : Record → Leg → Tenths → Stepped
-periodOver r l t = goesOn (charged r l charge.None t) (reportOn l (reportOf t (legAt l r .charge))) deadline.None
+abbrev pub periodOver : PointSet → Record → Leg → Tenths → Stepped
+periodOver dp r l t = goesOn dp (charged r l charge.None t) (reportOn l (reportOf t (legAt l r .charge))) deadline.None
 
-abbrev pub chargeApplied : Record → Leg → Tenths → Tenths → Stepped
-chargeApplied r l period t = quietly (charged r l (granted (r .stage) period t) t)
+abbrev pub chargeApplied : PointSet → Record → Leg → Tenths → Tenths → Stepped
+chargeApplied dp r l period t = quietly dp (charged r l (granted (r .stage) period t) t)

@@ -6,7 +6,7 @@ use mathlib.Core.List.{List, List·Memᴰ as In}
 use Rattle.call.specs.Types.{Entry, Tenths, Record, Stepped}
 use Rattle.forms.specs.declared.item.Body.the-variants as body
 use Rattle.call.specs.Answers.{isAccepted}
-use Rattle.call.specs.Arming.{entriesOf}
+use Rattle.call.specs.Request.{entriesOf}
 use Rattle.call.specs.Step.{respondOf}
 
 -- how many entries, and their bytes

@@ -1,133 +1,121 @@
--- Document 01, One call: the armable pairs of leg and detection point, and the rules that go by them.
--- Each pair is a role. Numbers appear only where bytes come in and where a report goes out; `pointOf` is the one table between the two.
+-- Document 01, One call: the point set of a call, which of its roles are armable and by which pair of leg and detection point, and the rules that go by it.
+-- The rules take any point set; `isPointSet` says what makes a description a good one, and the laws hold of each that passes (proofs/PointLaws.antt). Document 01's is `originating`.
 use Prim.Native.Nat.{ℕ}
-use mathlib.Core.List.{List, [], _∷_}
-use mathlib.Core.Bool.{Bool, true, false, not, cond, _&&_}
-use lib.Dec.{eqb}
-use lib.ListN.{getD, set}
+use mathlib.Core.List.{List, [], _∷_, map}
+use mathlib.Core.Bool.{Bool, true, false, not, cond, _&&_, _||_}
+use lib.Dec.{eqb, ltb}
+use lib.ListN.{getD}
 use Rattle.forms.specs.Fields.{legNumber}
-use Rattle.call.specs.Types.{Leg, Role, Point, Span, Named, Stage, Mode, Arming}
+use Rattle.call.specs.Types.{Leg, Role, Point, PointSet, Named}
 use Rattle.forms.specs.declared.item.Leg.the-variants.{One, Two}
-use Rattle.call.specs.declared.points.Role.the-variants.{MidCall, Disconnect1, Abandon, Moved, RouteFailure, Busy, NoAnswer, Answer, Disconnect2, Seized}
+use Rattle.call.specs.declared.roles.Role.the-variants.{MidCall, Disconnect1, Abandon, Moved, RouteFailure, Busy, NoAnswer, Answer, Disconnect2, Seized}
 use Rattle.call.specs.declared.points.Named.the-variants.{Unknown, Known}
-use Rattle.call.specs.declared.points.Span.the-variants as span
-use Rattle.call.specs.declared.record.Stage.the-variants.{Analysing, Alerting, Active}
-use Rattle.call.specs.declared.record.Mode.the-variants as mode
+use Rattle.call.specs.Roles.{losesLeg, roles, placeOf, isRole, every}
 
--- ---- stages (each one or more PICs), and spans of them
+-- ---- points
 
-abbrev pub isAnalysing : Stage → Bool
-isAnalysing Analysing = true
-isAnalysing Alerting = false
-isAnalysing Active = false
+abbrev pub at : Leg → ℕ → Point
+at leg number = record { leg = leg; number = number }
 
-abbrev pub isActive : Stage → Bool
-isActive Analysing = false
-isActive Alerting = false
-isActive Active = true
+-- "Armable: leg 1: 8 Mid-call, 9 Disconnect, 10 Abandon, 50 Moved. Leg 2: 4 Route failure, 5 Busy, 6 No answer, 7 Answer, 9 Disconnect, 19 Seized."
+-- (O_Mid_Call, O_Disconnect, O_Abandon, O_Change_Of_Position; Route_Select_Failure, O_Busy, O_No_Answer, O_Answer, O_Disconnect, O_Term_Seized)
+abbrev pub originatingPoint : Role → Point
+originatingPoint MidCall = at One 8
+originatingPoint Disconnect1 = at One 9
+originatingPoint Abandon = at One 10
+originatingPoint Moved = at One 50
+originatingPoint RouteFailure = at Two 4
+originatingPoint Busy = at Two 5
+originatingPoint NoAnswer = at Two 6
+originatingPoint Answer = at Two 7
+originatingPoint Disconnect2 = at Two 9
+originatingPoint Seized = at Two 19
 
-abbrev pub spans : Span → Stage → Bool
-spans span.Analysing s = isAnalysing s
-spans span.BeforeActive s = not (isActive s)
-spans span.Active s = isActive s
-spans span.PastAnalysing s = not (isAnalysing s)
-spans span.Always s = true
+-- the points stand in the order of the roles; "held at point 2 and an interrupting report for 2, leg 1" (Collected_Info)
+abbrev pub originating : PointSet
+originating = record { trigger = at One 2; points = map originatingPoint roles }
 
--- ---- the table of roles. Its columns:
--- leg and point: "Armable: leg 1: 8 Mid-call, 9 Disconnect, 10 Abandon, 50 Moved. Leg 2: 4 Route failure, 5 Busy, 6 No answer, 7 Answer, 9 Disconnect, 19 Seized."
---   (O_Mid_Call, O_Disconnect, O_Abandon, O_Change_Of_Position; Route_Select_Failure, O_Busy, O_No_Answer, O_Answer, O_Disconnect, O_Term_Seized)
--- met: "Points 4 and 19 need analysing; 5, 6, 7 analysing or alerting; 8 active; 50 alerting or active. Clear of leg 1 is Abandon before active, Disconnect when active; Clear of leg 2 needs active."
--- occurs, for Request report: "4 and 19 in analysing, 5, 6, 7, 10 before active, the rest always"
--- leaves: "The first and last rows [of what a met point disarms] also make that leg absent."
+-- no detection point has the number 0: a role that is not armable has it
+abbrev pub isPoint : Point → Bool
+isPoint q = ltb 0 (q .number)
 
-abbrev pub point : Leg → ℕ → Span → Span → Bool → Point
-point leg number met occurs leaves = record { leg = leg; number = number; met = met; occurs = occurs; leaves = leaves }
+-- the numbers are those of the point
+abbrev pub isPair : Point → ℕ → ℕ → Bool
+isPair q leg number = isPoint q && (eqb leg (legNumber (q .leg)) && eqb number (q .number))
 
-abbrev pub pointOf : Role → Point
-pointOf MidCall = point One 8 span.Active span.Always false
-pointOf Disconnect1 = point One 9 span.Active span.Always true
-pointOf Abandon = point One 10 span.BeforeActive span.BeforeActive true
-pointOf Moved = point One 50 span.PastAnalysing span.Always false
-pointOf RouteFailure = point Two 4 span.Analysing span.Analysing true
-pointOf Busy = point Two 5 span.BeforeActive span.BeforeActive true
-pointOf NoAnswer = point Two 6 span.BeforeActive span.BeforeActive true
-pointOf Answer = point Two 7 span.BeforeActive span.BeforeActive false
-pointOf Disconnect2 = point Two 9 span.Active span.Always true
-pointOf Seized = point Two 19 span.Analysing span.Analysing false
+abbrev pub isLeg : Leg → Leg → Bool
+isLeg k l = eqb (legNumber k) (legNumber l)
 
-abbrev pub roles : List Role
-roles = MidCall ∷ Disconnect1 ∷ Abandon ∷ Moved ∷ RouteFailure ∷ Busy ∷ NoAnswer ∷ Answer ∷ Disconnect2 ∷ Seized ∷ []
+-- the first role of the list that passes the test
+abbrev pub firstRole : (Role → Bool) → List Role → Named
+firstRole f [] = Unknown
+firstRole f (p ∷ ps) = cond (f p) (Known p) (firstRole f ps)
 
--- the place of a role in that list, and of its arming among the ten
-abbrev pub placeOf : Role → ℕ
-placeOf MidCall = 0
-placeOf Disconnect1 = 1
-placeOf Abandon = 2
-placeOf Moved = 3
-placeOf RouteFailure = 4
-placeOf Busy = 5
-placeOf NoAnswer = 6
-placeOf Answer = 7
-placeOf Disconnect2 = 8
-placeOf Seized = 9
+-- the roles of the list that pass the test
+abbrev pub picked : (Role → Bool) → List Role → List Role
+picked f [] = []
+picked f (p ∷ ps) = cond (f p) (p ∷ picked f ps) (picked f ps)
 
-abbrev pub isRole : Role → Role → Bool
-isRole p q = eqb (placeOf p) (placeOf q)
+-- ---- a role's point, and the role of a pair
 
-abbrev pub legOf : Role → Leg
-legOf p = pointOf p .leg
+module _ (dp : PointSet) where
+  abbrev pub pointIn : Role → Point
+  pointIn p = getD (dp .points) (placeOf p) (at One 0)
 
-abbrev pub isOnLeg : Role → Leg → Bool
-isOnLeg p l = eqb (legNumber (legOf p)) (legNumber l)
+  abbrev pub isIn : Role → Bool
+  isIn p = isPoint (pointIn p)
 
-abbrev pub metIn : Role → Stage → Bool
-metIn p s = spans (pointOf p .met) s
+  -- the role that has the numbers of a leg and a point, if there is one
+  abbrev pub roleIn : ℕ → ℕ → Named
+  roleIn leg number = firstRole (λ p. isPair (pointIn p) leg number) roles
 
-abbrev pub occursFrom : Role → Stage → Bool
-occursFrom p s = spans (pointOf p .occurs) s
+  abbrev pub isOnLeg : Role → Leg → Bool
+  isOnLeg p l = isIn p && isLeg (pointIn p .leg) l
 
-abbrev pub losesLeg : Role → Bool
-losesLeg p = pointOf p .leaves
+  -- the leg l becomes absent when the role is met
+  abbrev pub leaves : Role → Leg → Bool
+  leaves p l = losesLeg p && isOnLeg p l
 
--- the role that has the numbers of a leg and a point, if there is one
-abbrev pub roleIn : List Role → ℕ → ℕ → Named
-roleIn [] leg number = Unknown
-roleIn (p ∷ ps) leg number = cond (eqb leg (legNumber (legOf p)) && eqb number (pointOf p .number)) (Known p) (roleIn ps leg number)
+  -- ---- what a met role disarms (implicit disarming, 000)
 
-abbrev pub roleOf : ℕ → ℕ → Named
-roleOf = roleIn roles
+  abbrev pub onLeg : Leg → List Role
+  onLeg l = picked (λ p. isOnLeg p l) roles
 
--- ---- what a met role does (implicit disarming, 000)
+  -- the table 'met, disarms'; the row of Answer as T-01 (document 02) has it
+  abbrev pub disarms : Role → List Role
+  disarms RouteFailure = onLeg Two
+  disarms Busy = onLeg Two
+  disarms NoAnswer = onLeg Two
+  disarms Disconnect2 = onLeg Two
+  disarms Answer = RouteFailure ∷ Busy ∷ NoAnswer ∷ Answer ∷ Abandon ∷ Seized ∷ []
+  disarms MidCall = MidCall ∷ []
+  disarms Seized = Seized ∷ []
+  disarms Moved = Moved ∷ []
+  disarms Abandon = onLeg One
+  disarms Disconnect1 = onLeg One
 
-abbrev pub onLeg : Leg → List Role → List Role
-onLeg l [] = []
-onLeg l (p ∷ ps) = cond (isOnLeg p l) (p ∷ onLeg l ps) (onLeg l ps)
+  -- ---- what makes a description a point set
 
--- the table 'met, disarms'; the row of 7 as T-01 (document 02) has it
-abbrev pub disarms : Role → List Role
-disarms RouteFailure = onLeg Two roles
-disarms Busy = onLeg Two roles
-disarms NoAnswer = onLeg Two roles
-disarms Disconnect2 = onLeg Two roles
-disarms Answer = RouteFailure ∷ Busy ∷ NoAnswer ∷ Answer ∷ Abandon ∷ Seized ∷ []
-disarms MidCall = MidCall ∷ []
-disarms Seized = Seized ∷ []
-disarms Moved = Moved ∷ []
-disarms Abandon = onLeg One roles
-disarms Disconnect1 = onLeg One roles
+  -- the leg of which a role speaks, if it speaks of one: the clearing, failing and answering roles. All but Route failure are armable
+  abbrev pub legFits : Role → Bool
+  legFits MidCall = isIn MidCall
+  legFits Disconnect1 = isOnLeg Disconnect1 One
+  legFits Abandon = isOnLeg Abandon One
+  legFits Moved = isIn Moved
+  legFits RouteFailure = not (isOnLeg RouteFailure One)
+  legFits Busy = isOnLeg Busy Two
+  legFits NoAnswer = isOnLeg NoAnswer Two
+  legFits Answer = isOnLeg Answer Two
+  legFits Disconnect2 = isOnLeg Disconnect2 Two
+  legFits Seized = isOnLeg Seized Two
 
--- "Seized makes the stage alerting, Answer active."
-abbrev pub stageAfter : Role → Stage → Stage
-stageAfter p s = cond (isRole p Seized) Alerting (cond (isRole p Answer) Active s)
+  -- a number fits a byte, and is not the trigger's
+  abbrev pub numberFits : Role → Bool
+  numberFits p = ltb (pointIn p .number) 256 && not (eqb (pointIn p .number) (dp .trigger .number))
 
--- ---- armings (EDPs), one for each role
+  -- no other role has the pair
+  abbrev pub hasOwnPair : Role → Bool
+  hasOwnPair p = every (λ q. isRole p q || not (isPair (pointIn p) (legNumber (pointIn q .leg)) (pointIn q .number))) roles
 
-abbrev pub unarmed : Arming
-unarmed = record { mode = mode.None }
-
-abbrev pub modeAt : Role → List Arming → Mode
-modeAt p l = getD l (placeOf p) unarmed .mode
-
-abbrev pub disarmed : List Role → List Arming → List Arming
-disarmed [] l = l
-disarmed (p ∷ ps) l = disarmed ps (set l (placeOf p) unarmed)
+  abbrev pub isPointSet : Bool
+  isPointSet = every legFits roles && every numberFits roles && every hasOwnPair roles

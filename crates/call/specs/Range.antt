@@ -1,19 +1,20 @@
 -- Document 01, The call table: what is in range of a record (the record's part of refusal 3).
 use Prim.Native.Nat.{ℕ, zero, suc}
-use mathlib.Core.Bool.{Bool, true, not, _&&_}
+use mathlib.Core.Bool.{Bool, true, not, _&&_, _||_}
 use mathlib.Core.List.{List, [], _∷_}
 use lib.Dec.{leb, eqb}
 use Rattle.forms.specs.Fields.{nature, digitCount, isDigit}
 use Rattle.forms.specs.Units.{isClockReading, isPeriod, isTimer, isDefaultTimer}
-use Rattle.call.specs.Types.{Tenths, Charge, LegState, Arming, Hold, Number, Record}
-use Rattle.call.specs.declared.points.Role.the-variants.{Moved}
+use Rattle.forms.specs.Profile.{isRelease}
+use Rattle.call.specs.Types.{Tenths, PointSet, Role, Charge, LegState, Arming, Hold, Number, Record}
+use Rattle.call.specs.declared.roles.Role.the-variants.{Moved}
 use Rattle.call.specs.declared.record.Charge.the-variants as charge
-use Rattle.call.specs.declared.record.Mode.the-variants as mode
+use Rattle.call.specs.declared.armings.Mode.the-variants as mode
 use Rattle.call.specs.declared.record.Hold.the-variants as hold
-use Rattle.call.specs.Points.{isAnalysing, isRole, modeAt}
-use Rattle.call.specs.Charging.{isPresent, isPending}
-use Rattle.call.specs.Relationship.{isMode, someArmed, isHeld}
-use Rattle.call.specs.Operations.{isRelease}
+use Rattle.call.specs.Roles.{isAnalysing, roles, isRole, every}
+use Rattle.call.specs.Armings.{isMode, someArmed, modeAt}
+use Rattle.call.specs.Points.{isIn}
+use Rattle.call.specs.Record.{isPresent, isPending, isHeld, setOf}
 
 -- a period "as in Forms"; no "start later than last time"
 abbrev pub chargeInRange : Charge → Tenths → Bool
@@ -22,10 +23,14 @@ chargeInRange (charge.Waiting period) last = isPeriod period
 chargeInRange (charge.Running period start) last = isPeriod period && leb (start .0) (last .0)
 
 -- "hold none, 2 or an armable point with its leg, 50 excepted"
-abbrev pub holdInRange : Hold → Bool
-holdInRange hold.None = true
-holdInRange hold.Trigger = true
-holdInRange (hold.At p) = not (isRole p Moved)
+abbrev pub holdInRange : PointSet → Hold → Bool
+holdInRange dp hold.None = true
+holdInRange dp hold.Trigger = true
+holdInRange dp (hold.At p) = isIn dp p && not (isRole p Moved)
+
+-- "an arming none, 0 or 1 (50 never 0)": of a role that is no point of the call, none
+abbrev pub armingsInRange : PointSet → List Arming → Bool
+armingsInRange dp a = every (λ p. isIn dp p || isMode (modeAt p a) mode.None) roles && not (isMode (modeAt Moved a) mode.Interrupted)
 
 -- "digit places past the called number's count zero"
 unfoldable pub placesInRange : ℕ → List ℕ → Bool
@@ -36,12 +41,15 @@ placesInRange (suc count) (d ∷ ds) = isDigit d && placesInRange count ds
 unfoldable pub numberInRange : Number → Bool
 numberInRange n = nature (n .nature) .inRange && digitCount (n .count) .inRange && placesInRange (n .count) (n .digits)
 
--- "times below 2^48; kept timer 0..2047; an arming none, 0 or 1 (50 never 0)"; "all else as in Forms"
-unfoldable pub recordInRange : Record → Bool
-recordInRange r =
-    chargeInRange (r .leg1 .charge) (r .last) && chargeInRange (r .leg2 .charge) (r .last) && holdInRange (r .hold)
-    && isClockReading (r .last) && not (isMode (modeAt Moved (r .armings)) mode.Interrupted) && isTimer (r .kept)
+-- "times below 2^48; kept timer 0..2047"; "all else as in Forms"
+unfoldable pub inRangeOf : PointSet → Record → Bool
+inRangeOf dp r =
+    chargeInRange (r .leg1 .charge) (r .last) && chargeInRange (r .leg2 .charge) (r .last) && holdInRange dp (r .hold)
+    && isClockReading (r .last) && armingsInRange dp (r .armings) && isTimer (r .kept)
     && isDefaultTimer (r .timer) && numberInRange (r .number)
+
+abbrev pub recordInRange : Record → Bool
+recordInRange r = inRangeOf (setOf r) r
 
 -- ---- "A free record is blank: every field zero or none."
 

@@ -6,13 +6,13 @@ use lib.Dec.{ltb}
 use Rattle.forms.specs.Item.{itemInRange}
 use Rattle.forms.specs.Profile.{profileOf, isProfile}
 use Rattle.forms.specs.Units.{isClockReading}
-use Rattle.call.specs.Types.{Leg, Item, Entry, Tenths, Role, Record, Kind}
-use Rattle.call.specs.declared.step.Kind.the-variants as kind
-use Rattle.call.specs.Charging.{isPresent, isPending, isStarted, isBeforeEnd}
-use Rattle.call.specs.Relationship.{isHeld, relationshipOf, isControl, isRelated}
-use Rattle.call.specs.Record.{legAt}
+use Rattle.call.specs.Types.{Leg, Item, Entry, Tenths, Role, PointSet, Record, Kind}
+use Rattle.call.specs.declared.kind.Kind.the-variants as kind
+use Rattle.call.specs.Charging.{isBeforeEnd}
+use Rattle.call.specs.Relationship.{relationshipOf, isControl, isRelated}
+use Rattle.call.specs.Record.{isPresent, isPending, isStarted, isHeld, legAt}
 use Rattle.call.specs.Answers.{Row, row}
-use Rattle.call.specs.Arming.{entriesOf, areGood, noneSeen, arePossible}
+use Rattle.call.specs.Request.{entriesOf, areGood, noneSeen, arePossible}
 use Rattle.call.specs.Events.{isClearOf1, canMeet}
 use Rattle.call.specs.Operations.{canConnect}
 use Rattle.call.specs.Range.{recordInRange}
@@ -56,8 +56,8 @@ abbrev pub row10 : Record → Row
 row10 r = row 10 (not (isHeld (r .hold)))
 
 -- "entry with unknown leg and point, bad mode or timer, or a pair named twice"
-abbrev pub row11 : List Entry → Row
-row11 es = row 11 (not (areGood noneSeen es))
+abbrev pub row11 : PointSet → List Entry → Row
+row11 dp es = row 11 (not (areGood dp noneSeen es))
 
 -- "not possible at this stage or with these legs": an event, an arming, a Connect; "Period over with no started charge"; "Apply charging with its leg or leg 1 absent"
 abbrev pub row12 : Bool → Row
@@ -72,14 +72,14 @@ abbrev pub row14 : Record → Leg → Tenths → Row
 row14 r l t = row 14 (isBeforeEnd (legAt l r .charge) t)
 
 -- the rows that an item meets which asks k of an open call at t; its entries stand in `rest`
-abbrev pub rowsOf : Record → Kind → Tenths → List ℕ → List Row
-rowsOf r (kind.Setup nature service forwarded count) t rest = row5 ∷ []
-rowsOf r (kind.Event p) t rest = row7 r t ∷ row9 r p ∷ row12 (canMeet r p) ∷ []
-rowsOf r (kind.PeriodOver l) t rest = row7 r t ∷ row12 (isStarted (legAt l r .charge)) ∷ row14 r l t ∷ []
-rowsOf r (kind.RequestReport n) t rest = row7 r t ∷ row8 r ∷ row11 (entriesOf n rest) ∷ row12 (arePossible r (entriesOf n rest)) ∷ []
-rowsOf r kind.Continue t rest = row7 r t ∷ row8 r ∷ row10 r ∷ []
-rowsOf r (kind.Connect nature count) t rest = row7 r t ∷ row8 r ∷ row10 r ∷ row12 (canConnect r) ∷ []
-rowsOf r kind.Release t rest = row7 r t ∷ row8 r ∷ []
-rowsOf r (kind.ApplyCharging l period) t rest = row7 r t ∷ row8 r ∷ row12 (isPresent (r .leg1 .presence) && isPresent (legAt l r .presence)) ∷ row13 r l ∷ []
-rowsOf r kind.ActivityTest t rest = row7 r t ∷ row8Any r ∷ []
-rowsOf r kind.Abort t rest = row7 r t ∷ row8Any r ∷ []
+abbrev pub rowsOf : PointSet → Record → Kind → Tenths → List ℕ → List Row
+rowsOf dp r (kind.Setup nature service forwarded count) t rest = row5 ∷ []
+rowsOf dp r (kind.Event p) t rest = row7 r t ∷ row9 r p ∷ row12 (canMeet dp r p) ∷ []
+rowsOf dp r (kind.PeriodOver l) t rest = row7 r t ∷ row12 (isStarted (legAt l r .charge)) ∷ row14 r l t ∷ []
+rowsOf dp r (kind.RequestReport n) t rest = row7 r t ∷ row8 r ∷ row11 dp (entriesOf n rest) ∷ row12 (arePossible dp r (entriesOf n rest)) ∷ []
+rowsOf dp r kind.Continue t rest = row7 r t ∷ row8 r ∷ row10 r ∷ []
+rowsOf dp r (kind.Connect nature count) t rest = row7 r t ∷ row8 r ∷ row10 r ∷ row12 (canConnect r) ∷ []
+rowsOf dp r kind.Release t rest = row7 r t ∷ row8 r ∷ []
+rowsOf dp r (kind.ApplyCharging l period) t rest = row7 r t ∷ row8 r ∷ row12 (isPresent (r .leg1 .presence) && isPresent (legAt l r .presence)) ∷ row13 r l ∷ []
+rowsOf dp r kind.ActivityTest t rest = row7 r t ∷ row8Any r ∷ []
+rowsOf dp r kind.Abort t rest = row7 r t ∷ row8Any r ∷ []

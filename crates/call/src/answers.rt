@@ -1,31 +1,28 @@
 // Answers: what an item is told, and the record that remains (document 01, A call by itself).
 ghost use mathlib.Core.Path.{_≡_};
-ghost use mathlib.Core.Bool.{cond};
-ghost use Rattle.call.specs.Answers.{silent, goesOn, quietly, ended, refused};
+ghost use Rattle.call.specs.Points.{originating};
+ghost use Rattle.call.specs.Answers.{silent, suspensionOf, goesOn, quietly, ended, refused};
 use crate::charging;
-use crate::points::Role;
+use crate::charging::ChargeReport;
+use crate::points;
+use crate::points::*;
 use crate::record;
 use crate::record::*;
 use crate::relationship;
+use crate::relationship::Relationship;
 use forms::units::Tenths;
 
-pub enum Relationship {
+// The point at which the call is held, or none.
+pub enum Suspension {
     None,
-    Monitor,
-    Control,
+    At(Point),
 }
 
-// The event's report: none; for point 2, leg 1; for a met point.
+// The event's report: none, or for the point that was met.
 pub enum Report {
     None,
-    Trigger,
-    Interrupting(Role),
-    Notification(Role),
-}
-
-pub enum ChargeReport {
-    None,
-    Elapsed(Tenths),
+    Interrupting(Point),
+    Notification(Point),
 }
 
 // In their order: the event's, the charge of leg 1, the charge of leg 2.
@@ -44,7 +41,7 @@ pub enum Deadline {
 // What is said of an accepted item.
 pub struct Outcome {
     pub relationship: Relationship,
-    pub hold: Hold,
+    pub suspension: Suspension,
     pub reports: Reports,
     pub deadline: Deadline,
     pub over: bool,
@@ -61,19 +58,6 @@ pub struct Stepped {
     pub next: Record,
 }
 
-// The first refusal that applies, or none.
-pub(crate) enum Check {
-    Pass,
-    Fail(u8),
-}
-
-// A row of the refusals, and those after it.
-pub(crate) fn refuse_if(applies: bool, n: u8, then: Check) -> Check
-    ensures { λ c. ⌜ c ≡ cond applies (Check.Fail n) then ⌝ }
-{
-    if applies { Check::Fail(n) } else { then }
-}
-
 pub(crate) fn silent_reports() -> Reports
     ensures { λ r. ⌜ r ≡ silent ⌝ }
 {
@@ -84,14 +68,27 @@ pub(crate) fn silent_reports() -> Reports
     }
 }
 
-pub(crate) fn go_on(next: Record, reports: Reports, deadline: Deadline) -> Stepped
-    ensures { λ s. ⌜ s ≡ goesOn next reports deadline ⌝ }
+// Where a hold is, in a point set.
+fn suspension_of(h: Hold) -> Suspension
+    ensures { λ s. ⌜ s ≡ suspensionOf originating h ⌝ }
 {
-    let relationship = relationship::relationship_of(next);
+    let trigger = points::trigger();
+    match h {
+        Hold::None => Suspension::None,
+        Hold::Trigger => Suspension::At(trigger),
+        Hold::At(p) => Suspension::At(points::point_in(p)),
+    }
+}
+
+pub(crate) fn go_on(next: Record, reports: Reports, deadline: Deadline) -> Stepped
+    ensures { λ s. ⌜ s ≡ goesOn originating next reports deadline ⌝ }
+{
     let hold = next.hold;
+    let relationship = relationship::relationship_of(next);
+    let suspension = suspension_of(hold);
     let outcome = Outcome {
         relationship,
-        hold,
+        suspension,
         reports,
         deadline,
         over: false,
@@ -101,7 +98,7 @@ pub(crate) fn go_on(next: Record, reports: Reports, deadline: Deadline) -> Stepp
 }
 
 pub(crate) fn go_on_quietly(next: Record) -> Stepped
-    ensures { λ s. ⌜ s ≡ quietly next ⌝ }
+    ensures { λ s. ⌜ s ≡ quietly originating next ⌝ }
 {
     go_on(next, silent_reports(), Deadline::None)
 }
@@ -122,7 +119,7 @@ pub(crate) fn end(r: Record, event: Report, t: Tenths) -> Stepped
     };
     let outcome = Outcome {
         relationship: Relationship::None,
-        hold: Hold::None,
+        suspension: Suspension::None,
         reports,
         deadline: Deadline::None,
         over: true,

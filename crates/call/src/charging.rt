@@ -1,33 +1,17 @@
 // A leg's pending charge, its clock and its report (document 01, Charging).
 ghost use mathlib.Core.Path.{_≡_};
-ghost use mathlib.Core.Bool.{not, cond};
 ghost use Prim.Native.Nat.{_+_, _-_, min};
 ghost use lib.Dec.{ltb};
-ghost use Rattle.call.specs.Charging.{isPresent, isPending, answered, granted, isStarted, isBeforeEnd, reportOf};
-use crate::answers;
-use crate::answers::*;
-use crate::points;
+ghost use Rattle.call.specs.Charging.{answered, granted, reportOf};
 use crate::record::*;
+use crate::stages;
+use crate::stages::Stage;
 use forms::units::Tenths;
 
-pub(crate) fn is_present(l: LegState) -> bool
-    ensures { λ r. ⌜ r ≡ isPresent (l .presence) ⌝ }
-{
-    let p = l.presence;
-    match p {
-        Presence::Absent => false,
-        Presence::Present => true,
-    }
-}
-
-pub(crate) fn is_pending(c: Charge) -> bool
-    ensures { λ r. ⌜ r ≡ isPending c ⌝ }
-{
-    match c {
-        Charge::None => false,
-        Charge::Waiting(_) => true,
-        Charge::Running(_, _) => true,
-    }
+// What is reported of a charge that is removed.
+pub enum ChargeReport {
+    None,
+    Elapsed(Tenths),
 }
 
 // An Answer starts a clock that waits.
@@ -47,7 +31,7 @@ pub(crate) fn grant(s: Stage, period: Tenths, t: Tenths) -> Charge
 {
     let waiting = Charge::Waiting(period);
     let running = Charge::Running(period, t);
-    if points::is_active(s) {
+    if stages::is_active(s) {
         running
     } else {
         waiting
@@ -55,28 +39,13 @@ pub(crate) fn grant(s: Stage, period: Tenths, t: Tenths) -> Charge
 }
 
 // Before start + period. The sum is not taken: it need not fit.
-fn is_before(t: Tenths, start: Tenths, period: Tenths) -> bool
+pub(crate) fn is_before(t: Tenths, start: Tenths, period: Tenths) -> bool
     ensures { λ r. ⌜ r ≡ ltb (t .0) (start .0 + period .0) ⌝ }
 {
     if start.0 <= t.0 {
         t.0 - start.0 < period.0
     } else {
         true
-    }
-}
-
-// Refusals 12 and 14 of Period over.
-pub(crate) fn period_check(c: Charge, t: Tenths) -> Check
-    ensures { λ r. ⌜ r ≡ cond (not (isStarted c)) (Check.Fail 12) (cond (isBeforeEnd c t) (Check.Fail 14) Check.Pass) ⌝ }
-{
-    match c {
-        Charge::None => Check::Fail(12),
-        Charge::Waiting(_) => Check::Fail(12),
-        Charge::Running(period, start) => answers::refuse_if(
-            is_before(t, start, period),
-            14,
-            Check::Pass,
-        ),
     }
 }
 

@@ -1,48 +1,40 @@
 // Events: a role is met (document 01, One call).
 ghost use mathlib.Core.Path.{_≡_};
-ghost use Rattle.call.specs.Events.{clearOf, isClearOf1, canMeet, eventReport, holdAfter, legAfter, chargeAfter, endsCall, met};
+ghost use Rattle.call.specs.Points.{originating};
+ghost use Rattle.call.specs.Events.{isClearOf1, canMeet, eventReport, holdAfter, legAfter, chargeAfter, endsCall, met};
 use crate::answers;
 use crate::answers::*;
+use crate::armings;
+use crate::armings::Mode;
 use crate::charging;
+use crate::charging::ChargeReport;
 use crate::points;
-use crate::points::Role;
+use crate::points::*;
 use crate::record;
 use crate::record::*;
+use crate::roles;
+use crate::roles::Role;
+use crate::stages;
 use forms::item::Leg;
 use forms::units::Tenths;
-
-// The role that a Clear meets.
-pub(crate) fn clear_of(leg: Leg, s: Stage) -> Role
-    ensures { λ r. ⌜ r ≡ clearOf leg s ⌝ }
-{
-    match leg {
-        Leg::One => {
-            if points::is_active(s) {
-                Role::Disconnect1
-            } else {
-                Role::Abandon
-            }
-        }
-        Leg::Two => Role::Disconnect2,
-    }
-}
 
 // The role is met by a Clear of leg 1.
 pub(crate) fn is_clear_of_1(p: Role) -> bool
     ensures { λ r. ⌜ r ≡ isClearOf1 p ⌝ }
 {
-    points::is_role(p, Role::Abandon) | points::is_role(p, Role::Disconnect1)
+    roles::is_role(p, Role::Abandon) | roles::is_role(p, Role::Disconnect1)
 }
 
 // The stage and the legs allow the event.
 pub(crate) fn can_meet(r: Record, p: Role) -> bool
-    ensures { λ b. ⌜ b ≡ canMeet r p ⌝ }
+    ensures { λ b. ⌜ b ≡ canMeet originating r p ⌝ }
 {
     let s = r.stage;
-    let row = points::point_of(p);
-    let met = row.met;
-    let leg = row.leg;
-    points::is_within(met, s) & charging::is_present(record::leg_at(leg, r))
+    let part = roles::part_of(p);
+    let met = part.met;
+    let q = points::point_in(p);
+    let leg = q.leg;
+    stages::is_within(met, s) & points::is_point(q) & record::is_present(record::leg_at(leg, r))
 }
 
 // What becomes of a leg, and the report of its charge.
@@ -52,7 +44,7 @@ struct LegAfter {
 }
 
 fn leg_after(p: Role, leg: Leg, t: Tenths, l: LegState) -> LegAfter
-    ensures { λ r. ⌜ r ≡ record { state = legAfter p leg t l; report = chargeAfter p leg t l } ⌝ }
+    ensures { λ r. ⌜ r ≡ record { state = legAfter originating p leg t l; report = chargeAfter originating p leg t l } ⌝ }
 {
     let presence = l.presence;
     let c = l.charge;
@@ -65,7 +57,7 @@ fn leg_after(p: Role, leg: Leg, t: Tenths, l: LegState) -> LegAfter
             report: charging::report_of(t, c),
         };
     }
-    if points::is_role(p, Role::Answer) {
+    if roles::is_role(p, Role::Answer) {
         return LegAfter {
             state: LegState {
                 presence,
@@ -88,37 +80,38 @@ struct ByMode {
 }
 
 fn by_mode(p: Role, m: Mode) -> ByMode
-    ensures { λ r. ⌜ r ≡ record { event = eventReport p m; hold = holdAfter p m; over = endsCall p m } ⌝ }
+    ensures { λ r. ⌜ r ≡ record { event = eventReport originating p m; hold = holdAfter p m; over = endsCall p m } ⌝ }
 {
-    let row = points::point_of(p);
+    let part = roles::part_of(p);
+    let q = points::point_in(p);
     match m {
         Mode::None => ByMode {
             event: Report::None,
             hold: Hold::None,
-            over: row.leaves,
+            over: part.leaves,
         },
         Mode::Interrupted => ByMode {
-            event: Report::Interrupting(p),
+            event: Report::Interrupting(q),
             hold: Hold::At(p),
             over: false,
         },
         Mode::Notify => ByMode {
-            event: Report::Notification(p),
+            event: Report::Notification(q),
             hold: Hold::None,
-            over: row.leaves,
+            over: part.leaves,
         },
     }
 }
 
 // The role is met at t, its leg and stage allowing it.
 pub(crate) fn meet(r: Record, p: Role, t: Tenths) -> Stepped
-    ensures { λ s. ⌜ s ≡ met r p t ⌝ }
+    ensures { λ s. ⌜ s ≡ met originating r p t ⌝ }
 {
     let stage = r.stage;
     let l1 = r.leg1;
     let l2 = r.leg2;
     let a = r.armings;
-    let m = points::mode_at(p, a);
+    let m = armings::mode_at(p, a);
     let by = by_mode(p, m);
     let event = by.event;
     if by.over {
@@ -132,7 +125,7 @@ pub(crate) fn meet(r: Record, p: Role, t: Tenths) -> Stepped
     let charge1 = one.report;
     let charge2 = two.report;
     let armings = points::disarm(p, a);
-    let mut next = record::place(r, points::stage_after(p, stage), hold);
+    let mut next = record::with_stage_and_hold(r, roles::stage_after(p, stage), hold);
     next.leg1 = leg1;
     next.leg2 = leg2;
     next.last = t;

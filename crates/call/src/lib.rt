@@ -1,14 +1,19 @@
 // One call's behaviour, by value: its record, and the answer and next record of every item (document 01, Triggering to A call by itself).
+// Each module uses only those above it.
 pub mod answers;
-pub mod arming;
+pub mod armings;
 pub mod charging;
 pub mod events;
+pub mod kind;
 pub mod operations;
 pub mod points;
 pub mod range;
 pub mod record;
 pub mod refusals;
 pub mod relationship;
+pub mod request;
+pub mod roles;
 pub mod setup;
+pub mod stages;
 pub mod step;
 pub mod trigger;

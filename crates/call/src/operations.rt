@@ -1,17 +1,20 @@
 // What Period over and the operations do, Request report apart (document 01, One call and Charging).
 ghost use mathlib.Core.Path.{_≡_};
+ghost use Rattle.call.specs.Points.{originating};
 ghost use Prim.Native.Nat.{_<_};
 ghost use Rattle.forms.specs.Units.{clockEnd};
 ghost use Rattle.call.specs.Record.{numberOf};
-ghost use Rattle.call.specs.Operations.{after, routeTimer, routed, continued, canConnect, connected, dropped, isRelease, aborted, charged, reportOn, periodOver, chargeApplied};
+ghost use Rattle.call.specs.Operations.{after, routeTimer, routed, continued, canConnect, connected, dropped, aborted, charged, reportOn, periodOver, chargeApplied};
 use crate::answers;
 use crate::answers::*;
+use crate::armings;
 use crate::charging;
+use crate::charging::ChargeReport;
 use crate::record;
 use crate::record::*;
-use crate::relationship;
+use crate::stages::Stage;
 use forms::item::Leg;
-use forms::profile::Handling;
+use forms::profile;
 use forms::units::*;
 
 fn deadline_after(t: Tenths, s: Seconds) -> Deadline
@@ -33,7 +36,7 @@ fn route_timer(r: Record) -> Seconds
 // Routing starts: the kept timer is used up.
 pub(crate) fn route(r: Record, t: Tenths) -> Stepped
     requires { ⌜ t .0 < clockEnd ⌝ }
-    ensures { λ s. ⌜ s ≡ routed r t ⌝ }
+    ensures { λ s. ⌜ s ≡ routed originating r t ⌝ }
 {
     let timer = route_timer(r);
     let none = Seconds(0);
@@ -45,16 +48,16 @@ pub(crate) fn route(r: Record, t: Tenths) -> Stepped
 // Continue, from a hold.
 pub(crate) fn continue_on(r: Record, t: Tenths) -> Stepped
     requires { ⌜ t .0 < clockEnd ⌝ }
-    ensures { λ s. ⌜ s ≡ continued r t ⌝ }
+    ensures { λ s. ⌜ s ≡ continued originating r t ⌝ }
 {
     let stage = r.stage;
     let leg1 = r.leg1;
     let leg2 = r.leg2;
     let h = r.hold;
-    if charging::is_present(leg1) & charging::is_present(leg2) {
-        let mut next = record::place(r, stage, Hold::None);
+    if record::is_present(leg1) & record::is_present(leg2) {
+        let mut next = record::with_stage_and_hold(r, stage, Hold::None);
         next.last = t;
-        if relationship::is_trigger(h) {
+        if record::is_trigger(h) {
             return route(next, t);
         }
         return answers::go_on_quietly(next);
@@ -68,13 +71,13 @@ pub(crate) fn can_connect(r: Record) -> bool
     let h = r.hold;
     let leg1 = r.leg1;
     let leg2 = r.leg2;
-    relationship::is_trigger(h) | (charging::is_present(leg1) & !charging::is_present(leg2))
+    record::is_trigger(h) | (record::is_present(leg1) & !record::is_present(leg2))
 }
 
 // Leg 2 is present again, the stage analysing, the number replaced, and routing starts.
 pub(crate) fn connect(r: Record, nature: u8, count: u8, digits: &[u8], t: Tenths) -> Stepped
     requires { ⌜ t .0 < clockEnd ⌝ }
-    ensures { λ s. ⌜ s ≡ routed (connected r (numberOf nature count (now (digits .entry))) t) t ⌝ }
+    ensures { λ s. ⌜ s ≡ routed originating (connected r (numberOf nature count (now (digits .entry))) t) t ⌝ }
 {
     let l = r.leg2;
     let charge = l.charge;
@@ -83,7 +86,7 @@ pub(crate) fn connect(r: Record, nature: u8, count: u8, digits: &[u8], t: Tenths
         charge,
     };
     let number = record::number_of(nature, count, digits);
-    let mut next = record::place(r, Stage::Analysing, Hold::None);
+    let mut next = record::with_stage_and_hold(r, Stage::Analysing, Hold::None);
     next.leg2 = leg2;
     next.last = t;
     next.number = number;
@@ -106,7 +109,7 @@ fn drop_all(r: Record) -> Record
         presence: p2,
         charge: Charge::None,
     };
-    let armings = record::no_armings();
+    let armings = armings::no_armings();
     let none = Seconds(0);
     let mut s = r;
     s.leg1 = leg1;
@@ -116,26 +119,17 @@ fn drop_all(r: Record) -> Record
     s
 }
 
-pub(crate) fn is_release(h: Handling) -> bool
-    ensures { λ b. ⌜ b ≡ isRelease h ⌝ }
-{
-    match h {
-        Handling::Continue => false,
-        Handling::Release => true,
-    }
-}
-
 pub(crate) fn abort(r: Record, t: Tenths) -> Stepped
     requires { ⌜ t .0 < clockEnd ⌝ }
-    ensures { λ s. ⌜ s ≡ aborted r t ⌝ }
+    ensures { λ s. ⌜ s ≡ aborted originating r t ⌝ }
 {
     let handling = r.handling;
     let h = r.hold;
     let d = drop_all(r);
-    if is_release(handling) {
+    if profile::is_release(handling) {
         return answers::end(d, Report::None, t);
     }
-    if relationship::is_held(h) {
+    if record::is_held(h) {
         return continue_on(d, t);
     }
     answers::go_on_quietly(record::with_last(d, t))
@@ -172,7 +166,7 @@ fn report_on(leg: Leg, c: ChargeReport) -> Reports
 }
 
 pub(crate) fn period_over(r: Record, leg: Leg, t: Tenths) -> Stepped
-    ensures { λ s. ⌜ s ≡ periodOver r leg t ⌝ }
+    ensures { λ s. ⌜ s ≡ periodOver originating r leg t ⌝ }
 {
     let l = record::leg_at(leg, r);
     let c = l.charge;
@@ -181,7 +175,7 @@ pub(crate) fn period_over(r: Record, leg: Leg, t: Tenths) -> Stepped
 }
 
 pub(crate) fn apply_charging(r: Record, leg: Leg, period: Tenths, t: Tenths) -> Stepped
-    ensures { λ s. ⌜ s ≡ chargeApplied r leg period t ⌝ }
+    ensures { λ s. ⌜ s ≡ chargeApplied originating r leg period t ⌝ }
 {
     let stage = r.stage;
     let c = charging::grant(stage, period, t);

@@ -1,44 +1,20 @@
-// The roles: the armable pairs of leg and detection point, and the rules that go by them (document 01, One call).
+// The point set of a call: which roles are armable, and by which pair of leg and detection point; and what goes by it (document 01, One call).
 ghost use mathlib.Core.Path.{_≡_};
-ghost use mathlib.Core.Bool.{_&&_};
+ghost use mathlib.Core.Bool.{_&&_, cond};
 ghost use mathlib.Core.List.{[], _∷_};
-ghost use Prim.Native.Nat.{_<_};
-ghost use lib.Dec.{eqb};
-ghost use Rattle.forms.specs.Fields.{legNumber};
-ghost use Rattle.forms.specs.declared.item.Leg.the-variants as leg;
-ghost use Rattle.call.specs.Points.{isAnalysing, isActive, spans, pointOf, roles, placeOf, isRole, isOnLeg, losesLeg, roleOf, onLeg, disarms, stageAfter, modeAt, disarmed};
-use crate::record::*;
+ghost use Rattle.call.specs.Armings.{unarmed, disarmed};
+ghost use Rattle.call.specs.Points.{at, originating, isPoint, isLeg, pointIn, isIn, roleIn, leaves, onLeg, disarms};
+use crate::armings;
+use crate::armings::*;
+use crate::roles;
+use crate::roles::Role;
+use forms::item;
 use forms::item::Leg;
 
-pub enum Role {
-    MidCall,
-    Disconnect1,
-    Abandon,
-    Moved,
-    RouteFailure,
-    Busy,
-    NoAnswer,
-    Answer,
-    Disconnect2,
-    Seized,
-}
-
-// A span of stages.
-pub enum Span {
-    Analysing,
-    BeforeActive,
-    Active,
-    PastAnalysing,
-    Always,
-}
-
-// A row of the table of roles: the leg and the number of the detection point, the stages at which it can be met and from which it can still occur, and whether its leg becomes absent when it is met.
+// A detection point: its leg, and its number, which is not 0.
 pub struct Point {
     pub leg: Leg,
     pub number: u8,
-    pub met: Span,
-    pub occurs: Span,
-    pub leaves: bool,
 }
 
 // The role that two numbers name.
@@ -47,88 +23,52 @@ pub(crate) enum Named {
     Known(Role),
 }
 
-fn point_at(leg: Leg, number: u8, met: Span, occurs: Span, leaves: bool) -> Point
-    ensures { λ r. ⌜ r ≡ record { leg = leg; number = number; met = met; occurs = occurs; leaves = leaves } ⌝ }
+fn at(leg: Leg, number: u8) -> Point
+    ensures { λ q. ⌜ q ≡ at leg number ⌝ }
 {
-    Point {
-        leg,
-        number,
-        met,
-        occurs,
-        leaves,
-    }
+    Point { leg, number }
 }
 
-// The table of roles.
-pub fn point_of(p: Role) -> Point
-    ensures { λ r. ⌜ r ≡ pointOf p ⌝ }
+// The points of document 01's set: the trigger's, and those of the roles.
+pub fn trigger() -> Point
+    ensures { λ q. ⌜ q ≡ originating .trigger ⌝ }
+{
+    at(Leg::One, 2)
+}
+
+pub fn point_in(p: Role) -> Point
+    ensures { λ q. ⌜ q ≡ pointIn originating p ⌝ }
 {
     match p {
-        Role::MidCall => point_at(Leg::One, 8, Span::Active, Span::Always, false),
-        Role::Disconnect1 => point_at(Leg::One, 9, Span::Active, Span::Always, true),
-        Role::Abandon => point_at(Leg::One, 10, Span::BeforeActive, Span::BeforeActive, true),
-        Role::Moved => point_at(Leg::One, 50, Span::PastAnalysing, Span::Always, false),
-        Role::RouteFailure => point_at(Leg::Two, 4, Span::Analysing, Span::Analysing, true),
-        Role::Busy => point_at(Leg::Two, 5, Span::BeforeActive, Span::BeforeActive, true),
-        Role::NoAnswer => point_at(Leg::Two, 6, Span::BeforeActive, Span::BeforeActive, true),
-        Role::Answer => point_at(Leg::Two, 7, Span::BeforeActive, Span::BeforeActive, false),
-        Role::Disconnect2 => point_at(Leg::Two, 9, Span::Active, Span::Always, true),
-        Role::Seized => point_at(Leg::Two, 19, Span::Analysing, Span::Analysing, false),
+        Role::MidCall => at(Leg::One, 8),
+        Role::Disconnect1 => at(Leg::One, 9),
+        Role::Abandon => at(Leg::One, 10),
+        Role::Moved => at(Leg::One, 50),
+        Role::RouteFailure => at(Leg::Two, 4),
+        Role::Busy => at(Leg::Two, 5),
+        Role::NoAnswer => at(Leg::Two, 6),
+        Role::Answer => at(Leg::Two, 7),
+        Role::Disconnect2 => at(Leg::Two, 9),
+        Role::Seized => at(Leg::Two, 19),
     }
 }
 
-// The place of a role's arming.
-pub(crate) fn place_of(p: Role) -> usize
-    ensures { λ r. ⌜ (r ≡ placeOf p) × (r < 10) ⌝ }
+pub(crate) fn is_point(q: Point) -> bool
+    ensures { λ r. ⌜ r ≡ isPoint q ⌝ }
 {
-    match p {
-        Role::MidCall => 0,
-        Role::Disconnect1 => 1,
-        Role::Abandon => 2,
-        Role::Moved => 3,
-        Role::RouteFailure => 4,
-        Role::Busy => 5,
-        Role::NoAnswer => 6,
-        Role::Answer => 7,
-        Role::Disconnect2 => 8,
-        Role::Seized => 9,
-    }
+    0 < q.number
 }
 
-pub(crate) fn is_role(p: Role, q: Role) -> bool
-    ensures { λ r. ⌜ r ≡ isRole p q ⌝ }
+pub(crate) fn is_in(p: Role) -> bool
+    ensures { λ r. ⌜ r ≡ isIn originating p ⌝ }
 {
-    place_of(p) == place_of(q)
+    is_point(point_in(p))
 }
 
-fn is_leg(a: Leg, b: Leg) -> bool
-    ensures { λ r. ⌜ r ≡ eqb (legNumber a) (legNumber b) ⌝ }
+fn role_on_1(number: u8) -> Named
+    ensures { λ r. ⌜ r ≡ roleIn originating 1 number ⌝ }
 {
-    match a {
-        Leg::One => match b {
-            Leg::One => true,
-            Leg::Two => false,
-        },
-        Leg::Two => match b {
-            Leg::One => false,
-            Leg::Two => true,
-        },
-    }
-}
-
-// The leg becomes absent when the role is met.
-pub(crate) fn takes_leg(p: Role, leg: Leg) -> bool
-    ensures { λ r. ⌜ r ≡ (losesLeg p && isOnLeg p leg) ⌝ }
-{
-    let row = point_of(p);
-    let own = row.leg;
-    row.leaves & is_leg(own, leg)
-}
-
-fn role_on_1(point: u8) -> Named
-    ensures { λ r. ⌜ r ≡ roleOf 1 point ⌝ }
-{
-    match point {
+    match number {
         8 => Named::Known(Role::MidCall),
         9 => Named::Known(Role::Disconnect1),
         10 => Named::Known(Role::Abandon),
@@ -137,10 +77,10 @@ fn role_on_1(point: u8) -> Named
     }
 }
 
-fn role_on_2(point: u8) -> Named
-    ensures { λ r. ⌜ r ≡ roleOf 2 point ⌝ }
+fn role_on_2(number: u8) -> Named
+    ensures { λ r. ⌜ r ≡ roleIn originating 2 number ⌝ }
 {
-    match point {
+    match number {
         4 => Named::Known(Role::RouteFailure),
         5 => Named::Known(Role::Busy),
         6 => Named::Known(Role::NoAnswer),
@@ -151,80 +91,56 @@ fn role_on_2(point: u8) -> Named
     }
 }
 
-pub(crate) fn role_of(leg: u8, point: u8) -> Named
-    ensures { λ r. ⌜ r ≡ roleOf leg point ⌝ }
+// The role that has the numbers of a leg and a point.
+pub(crate) fn role_in(leg: u8, number: u8) -> Named
+    ensures { λ r. ⌜ r ≡ roleIn originating leg number ⌝ }
 {
     match leg {
-        1 => role_on_1(point),
-        2 => role_on_2(point),
+        1 => role_on_1(number),
+        2 => role_on_2(number),
         _ => Named::Unknown,
     }
 }
 
-pub(crate) fn is_analysing(s: Stage) -> bool
-    ensures { λ r. ⌜ r ≡ isAnalysing s ⌝ }
+fn is_on_leg(q: Point, leg: Leg) -> bool
+    ensures { λ r. ⌜ r ≡ (isPoint q && isLeg (q .leg) leg) ⌝ }
 {
-    match s {
-        Stage::Analysing => true,
-        Stage::Alerting => false,
-        Stage::Active => false,
-    }
+    let own = q.leg;
+    is_point(q) & (item::leg_number(own) == item::leg_number(leg))
 }
 
-pub(crate) fn is_active(s: Stage) -> bool
-    ensures { λ r. ⌜ r ≡ isActive s ⌝ }
+// The leg becomes absent when the role is met.
+pub(crate) fn takes_leg(p: Role, leg: Leg) -> bool
+    ensures { λ r. ⌜ r ≡ leaves originating p leg ⌝ }
 {
-    match s {
-        Stage::Analysing => false,
-        Stage::Alerting => false,
-        Stage::Active => true,
-    }
+    let part = roles::part_of(p);
+    part.leaves & is_on_leg(point_in(p), leg)
 }
 
-pub(crate) fn is_within(x: Span, s: Stage) -> bool
-    ensures { λ r. ⌜ r ≡ spans x s ⌝ }
+fn unarmed_if(off: bool, x: Arming) -> Arming
+    ensures { λ r. ⌜ r ≡ cond off unarmed x ⌝ }
 {
-    let analysing = is_analysing(s);
-    let active = is_active(s);
-    match x {
-        Span::Analysing => analysing,
-        Span::BeforeActive => !active,
-        Span::Active => active,
-        Span::PastAnalysing => !analysing,
-        Span::Always => true,
-    }
+    if off { Arming { mode: Mode::None } } else { x }
 }
 
-// Places 0 to 3 are the roles of leg 1, 4 to 9 those of leg 2.
-fn without_leg1(a: [Arming; 10]) -> [Arming; 10]
-    ensures { λ r. ⌜ r ≡ disarmed (onLeg leg.One roles) a ⌝ }
+// The points of a leg are disarmed.
+fn without_leg(leg: Leg, a: [Arming; 10]) -> [Arming; 10]
+    ensures { λ r. ⌜ r ≡ disarmed (onLeg originating leg) a ⌝ }
 {
-    let u = Arming { mode: Mode::None };
     let mut b = a;
-    b[0] = u;
-    b[1] = u;
-    b[2] = u;
-    b[3] = u;
+    let mut i: usize = 0;
+    while i < 10 {
+        let q = point_in(roles::role_at(i));
+        let x = b[i];
+        b[i] = unarmed_if(is_on_leg(q, leg), x);
+        i += 1;
+    }
     b
 }
 
-fn without_leg2(a: [Arming; 10]) -> [Arming; 10]
-    ensures { λ r. ⌜ r ≡ disarmed (onLeg leg.Two roles) a ⌝ }
-{
-    let u = Arming { mode: Mode::None };
-    let mut b = a;
-    b[4] = u;
-    b[5] = u;
-    b[6] = u;
-    b[7] = u;
-    b[8] = u;
-    b[9] = u;
-    b
-}
-
-// Answer's row: 4, 5, 6, 7, 10 and 19.
+// Answer's row: Route failure, Busy, No answer, Answer, Abandon and Seized.
 fn without_answered(a: [Arming; 10]) -> [Arming; 10]
-    ensures { λ r. ⌜ r ≡ disarmed (disarms Role.Answer) a ⌝ }
+    ensures { λ r. ⌜ r ≡ disarmed (disarms originating Role.Answer) a ⌝ }
 {
     let u = Arming { mode: Mode::None };
     let mut b = a;
@@ -232,55 +148,25 @@ fn without_answered(a: [Arming; 10]) -> [Arming; 10]
     b[5] = u;
     b[6] = u;
     b[7] = u;
-    b[2] = u; // Abandon
-    b[9] = u; // Seized
-    b
-}
-
-fn without(p: Role, a: [Arming; 10]) -> [Arming; 10]
-    ensures { λ r. ⌜ r ≡ disarmed (p ∷ []) a ⌝ }
-{
-    let i = place_of(p);
-    let u = Arming { mode: Mode::None };
-    let mut b = a;
-    b[i] = u;
+    b[2] = u;
+    b[9] = u;
     b
 }
 
 // The armings that are left when a role is met.
 pub(crate) fn disarm(p: Role, a: [Arming; 10]) -> [Arming; 10]
-    ensures { λ r. ⌜ r ≡ disarmed (disarms p) a ⌝ }
+    ensures { λ r. ⌜ r ≡ disarmed (disarms originating p) a ⌝ }
 {
     match p {
-        Role::RouteFailure => without_leg2(a),
-        Role::Busy => without_leg2(a),
-        Role::NoAnswer => without_leg2(a),
-        Role::Disconnect2 => without_leg2(a),
+        Role::RouteFailure => without_leg(Leg::Two, a),
+        Role::Busy => without_leg(Leg::Two, a),
+        Role::NoAnswer => without_leg(Leg::Two, a),
+        Role::Disconnect2 => without_leg(Leg::Two, a),
         Role::Answer => without_answered(a),
-        Role::MidCall => without(Role::MidCall, a),
-        Role::Seized => without(Role::Seized, a),
-        Role::Moved => without(Role::Moved, a),
-        Role::Abandon => without_leg1(a),
-        Role::Disconnect1 => without_leg1(a),
+        Role::MidCall => armings::without(Role::MidCall, a),
+        Role::Seized => armings::without(Role::Seized, a),
+        Role::Moved => armings::without(Role::Moved, a),
+        Role::Abandon => without_leg(Leg::One, a),
+        Role::Disconnect1 => without_leg(Leg::One, a),
     }
-}
-
-pub(crate) fn stage_after(p: Role, s: Stage) -> Stage
-    ensures { λ r. ⌜ r ≡ stageAfter p s ⌝ }
-{
-    if is_role(p, Role::Seized) {
-        Stage::Alerting
-    } else if is_role(p, Role::Answer) {
-        Stage::Active
-    } else {
-        s
-    }
-}
-
-pub(crate) fn mode_at(p: Role, a: [Arming; 10]) -> Mode
-    ensures { λ r. ⌜ r ≡ modeAt p a ⌝ }
-{
-    let i = place_of(p);
-    let x = a[i];
-    x.mode
 }

@@ -3,13 +3,18 @@ ghost use mathlib.Core.Path.{_≡_};
 ghost use mathlib.Core.Bool.{cond};
 ghost use lib.Dec.{eqb};
 ghost use Rattle.forms.specs.Fields.{isDigit};
-ghost use Rattle.call.specs.Range.{chargeInRange, holdInRange, placesInRange, numberInRange, recordInRange, isUnused, isUnarmed, isNoNumber, isBlank};
-use crate::charging;
-use crate::operations;
+ghost use Rattle.call.specs.Points.{originating};
+ghost use Rattle.call.specs.Range.{chargeInRange, holdInRange, armingsInRange, placesInRange, numberInRange, recordInRange, isUnused, isUnarmed, isNoNumber, isBlank};
+use crate::armings;
+use crate::armings::*;
 use crate::points;
-use crate::points::Role;
+use crate::record;
 use crate::record::*;
-use crate::relationship;
+use crate::roles;
+use crate::roles::Role;
+use crate::stages;
+use forms::fields;
+use forms::profile;
 use forms::units::*;
 
 fn charge_in_range(c: Charge, last: Tenths) -> bool
@@ -23,20 +28,28 @@ fn charge_in_range(c: Charge, last: Tenths) -> bool
 }
 
 fn hold_in_range(h: Hold) -> bool
-    ensures { λ b. ⌜ b ≡ holdInRange h ⌝ }
+    ensures { λ b. ⌜ b ≡ holdInRange originating h ⌝ }
 {
     match h {
         Hold::None => true,
         Hold::Trigger => true,
-        Hold::At(p) => !points::is_role(p, Role::Moved),
+        Hold::At(p) => points::is_in(p) & !roles::is_role(p, Role::Moved),
     }
+}
+
+// Every role is a point of document 01's set.
+fn armings_in_range(a: [Arming; 10]) -> bool
+    ensures { λ b. ⌜ b ≡ armingsInRange originating a ⌝ }
+{
+    let moved = armings::mode_at(Role::Moved, a);
+    !armings::is_mode(moved, Mode::Interrupted)
 }
 
 // A place of the number: a digit up to the count, zero past it.
 fn place_in_range(inside: bool, d: u8) -> bool
     ensures { λ b. ⌜ b ≡ cond inside (isDigit d) (eqb d 0) ⌝ }
 {
-    if inside { (0 <= d) & (d <= 14) } else { d == 0 }
+    if inside { fields::is_digit(d) } else { d == 0 }
 }
 
 fn places_in_range(count: u8, digits: [u8; 15]) -> bool
@@ -59,8 +72,8 @@ fn number_in_range(n: Number) -> bool
     let nature = n.nature;
     let count = n.count;
     let digits = n.digits;
-    ((0 <= nature) & (nature <= 127))
-        & ((1 <= count) & (count <= 15))
+    fields::is_nature(nature)
+        & fields::is_digit_count(count as usize)
         & places_in_range(count, digits)
 }
 
@@ -77,14 +90,13 @@ pub fn record_in_range(r: Record) -> bool
     let kept = r.kept;
     let timer = r.timer;
     let number = r.number;
-    let moved = points::mode_at(Role::Moved, a);
     charge_in_range(c1, last)
         & charge_in_range(c2, last)
         & hold_in_range(h)
-        & (last.0 < Tenths::CLOCK_END.0)
-        & !relationship::is_mode(moved, Mode::Interrupted)
-        & (kept.0 <= Seconds::LONGEST_TIMER.0)
-        & ((10 <= timer.0) & (timer.0 <= 180))
+        & last.is_clock_reading()
+        & armings_in_range(a)
+        & kept.is_timer()
+        & timer.is_default_timer()
         & number_in_range(number)
 }
 
@@ -93,13 +105,13 @@ fn is_unused(l: LegState) -> bool
     ensures { λ b. ⌜ b ≡ isUnused l ⌝ }
 {
     let c = l.charge;
-    !charging::is_present(l) & !charging::is_pending(c)
+    !record::is_present(l) & !record::is_pending(c)
 }
 
 fn is_unarmed(a: [Arming; 10]) -> bool
     ensures { λ b. ⌜ b ≡ isUnarmed a ⌝ }
 {
-    !relationship::some_armed(Mode::Interrupted, a) & !relationship::some_armed(Mode::Notify, a)
+    !armings::some_armed(Mode::Interrupted, a) & !armings::some_armed(Mode::Notify, a)
 }
 
 fn is_no_number(n: Number) -> bool
@@ -125,14 +137,14 @@ pub fn is_blank(r: Record) -> bool
     let timer = r.timer;
     let handling = r.handling;
     let number = r.number;
-    points::is_analysing(stage)
+    stages::is_analysing(stage)
         & is_unused(leg1)
         & is_unused(leg2)
-        & !relationship::is_held(h)
+        & !record::is_held(h)
         & (last.0 == 0)
         & is_unarmed(a)
         & (kept.0 == 0)
         & (timer.0 == 0)
-        & !operations::is_release(handling)
+        & !profile::is_release(handling)
         & is_no_number(number)
 }

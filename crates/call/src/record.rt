@@ -1,18 +1,15 @@
 // The record of one call (document 01, One call), and records with some fields replaced.
 ghost use mathlib.Core.Path.{_≡_};
 ghost use Rattle.forms.specs.Bytes.{pad};
-ghost use Rattle.call.specs.Record.{noArmings, numberOf, blank, timed, placed, legAt, withLeg};
-use crate::points::Role;
+ghost use Rattle.call.specs.Record.{isPresent, isPending, isHeld, isTrigger, numberOf, blank, timed, staged, legAt, withLeg};
+use crate::armings;
+use crate::armings::Arming;
+use crate::roles::Role;
+use crate::stages::Stage;
 use forms::bytes;
 use forms::item::Leg;
 use forms::profile::Handling;
 use forms::units::*;
-
-pub enum Stage {
-    Analysing,
-    Alerting,
-    Active,
-}
 
 pub enum Presence {
     Absent,
@@ -32,18 +29,7 @@ pub struct LegState {
     pub charge: Charge,
 }
 
-// The monitor mode of an armed point: interrupted is 0, notify and continue 1.
-pub enum Mode {
-    None,
-    Interrupted,
-    Notify,
-}
-
-pub struct Arming {
-    pub mode: Mode,
-}
-
-// The point of suspension: none, point 2, or a met point.
+// The point of suspension: none, the trigger's, or a met point.
 pub enum Hold {
     None,
     Trigger,
@@ -71,11 +57,44 @@ pub struct Record {
     pub number: Number,
 }
 
-pub(crate) fn no_armings() -> [Arming; 10]
-    ensures { λ a. ⌜ a ≡ noArmings ⌝ }
+pub(crate) fn is_present(l: LegState) -> bool
+    ensures { λ r. ⌜ r ≡ isPresent (l .presence) ⌝ }
 {
-    let u = Arming { mode: Mode::None };
-    [u; 10]
+    let p = l.presence;
+    match p {
+        Presence::Absent => false,
+        Presence::Present => true,
+    }
+}
+
+pub(crate) fn is_pending(c: Charge) -> bool
+    ensures { λ r. ⌜ r ≡ isPending c ⌝ }
+{
+    match c {
+        Charge::None => false,
+        Charge::Waiting(_) => true,
+        Charge::Running(_, _) => true,
+    }
+}
+
+pub(crate) fn is_held(h: Hold) -> bool
+    ensures { λ r. ⌜ r ≡ isHeld h ⌝ }
+{
+    match h {
+        Hold::None => false,
+        Hold::Trigger => true,
+        Hold::At(_) => true,
+    }
+}
+
+pub(crate) fn is_trigger(h: Hold) -> bool
+    ensures { λ r. ⌜ r ≡ isTrigger h ⌝ }
+{
+    match h {
+        Hold::None => false,
+        Hold::Trigger => true,
+        Hold::At(_) => false,
+    }
 }
 
 // The digits in their 15 places.
@@ -83,11 +102,7 @@ fn places_of(digits: &[u8]) -> [u8; 15]
     ensures { λ d. ⌜ d ≡ pad 15 (now (digits .entry)) ⌝ }
 {
     let mut d = [0u8; 15];
-    let mut i: usize = 0;
-    while i < 15 {
-        d[i] = bytes::at(digits, i);
-        i += 1;
-    }
+    bytes::copy_in(&mut d, 0, bytes::part_of(digits, 0, 15));
     d
 }
 
@@ -110,7 +125,7 @@ pub fn blank_record() -> Record
         presence: Presence::Absent,
         charge: Charge::None,
     };
-    let armings = no_armings();
+    let armings = armings::no_armings();
     Record {
         stage: Stage::Analysing,
         leg1: absent,
@@ -138,8 +153,8 @@ pub(crate) fn with_last(r: Record, t: Tenths) -> Record
 }
 
 // A field that is an enum is not stored to: the record is written anew.
-pub(crate) fn place(r: Record, stage: Stage, hold: Hold) -> Record
-    ensures { λ s. ⌜ s ≡ placed r stage hold ⌝ }
+pub(crate) fn with_stage_and_hold(r: Record, stage: Stage, hold: Hold) -> Record
+    ensures { λ s. ⌜ s ≡ staged r stage hold ⌝ }
 {
     let leg1 = r.leg1;
     let leg2 = r.leg2;

@@ -1,45 +1,75 @@
 // Refusals 5 and 7 to 14: the first that applies (document 01, Numbered refusals).
 ghost use mathlib.Core.Path.{_≡_};
-ghost use mathlib.Core.Bool.{_&&_, cond};
+ghost use Rattle.call.specs.Points.{originating};
+ghost use mathlib.Core.Bool.{not, _&&_, cond};
 ghost use mathlib.Core.List.{[], _∷_};
-ghost use Rattle.call.specs.Charging.{isPresent};
-ghost use Rattle.call.specs.Record.{legAt};
+ghost use Rattle.call.specs.Charging.{isBeforeEnd};
+ghost use Rattle.call.specs.Record.{isPresent, isStarted, legAt};
 ghost use Rattle.call.specs.Answers.{firstOf};
+ghost use Rattle.call.specs.Request.{entriesOf, arePossible};
 ghost use Rattle.call.specs.Operations.{canConnect};
-ghost use Rattle.call.specs.Refusals.{row7, row8, row8Any, row10, row12, row13, rowsOf};
-use crate::answers;
-use crate::answers::Check;
-use crate::arming;
+ghost use Rattle.call.specs.Refusals.{row7, row8, row8Any, row10, row11, row12, row13, row14, rowsOf};
 use crate::charging;
 use crate::events;
+use crate::kind::Kind;
 use crate::operations;
-use crate::points::Role;
+use crate::points;
 use crate::record;
-use crate::record::Record;
+use crate::record::*;
 use crate::relationship;
-use crate::step::Kind;
+use crate::request;
+use crate::roles::Role;
+use forms::item;
 use forms::item::Leg;
 use forms::units::Tenths;
 
+// The first refusal that applies, or none.
+pub(crate) enum Check {
+    Pass,
+    Fail(u8),
+}
+
+// A row of the refusals, and those after it.
+pub(crate) fn refuse_if(applies: bool, n: u8, then: Check) -> Check
+    ensures { λ c. ⌜ c ≡ cond applies (Check.Fail n) then ⌝ }
+{
+    if applies { Check::Fail(n) } else { then }
+}
+
 // Rows 7, 9 and 12.
 fn event_refusal(r: Record, p: Role, t: Tenths) -> Check
-    ensures { λ c. ⌜ c ≡ firstOf (rowsOf r (Kind.Event p) t []) ⌝ }
+    ensures { λ c. ⌜ c ≡ firstOf (rowsOf originating r (Kind.Event p) t []) ⌝ }
 {
     let last = r.last;
     let h = r.hold;
-    let held = relationship::is_held(h) & !events::is_clear_of_1(p);
-    let possible = answers::refuse_if(!events::can_meet(r, p), 12, Check::Pass);
-    answers::refuse_if(t.0 < last.0, 7, answers::refuse_if(held, 9, possible))
+    let held = record::is_held(h) & !events::is_clear_of_1(p);
+    let possible = refuse_if(!events::can_meet(r, p), 12, Check::Pass);
+    refuse_if(t.0 < last.0, 7, refuse_if(held, 9, possible))
+}
+
+// Refusals 12 and 14 of Period over.
+fn period_check(c: Charge, t: Tenths) -> Check
+    ensures { λ r. ⌜ r ≡ cond (not (isStarted c)) (Check.Fail 12) (cond (isBeforeEnd c t) (Check.Fail 14) Check.Pass) ⌝ }
+{
+    match c {
+        Charge::None => Check::Fail(12),
+        Charge::Waiting(_) => Check::Fail(12),
+        Charge::Running(period, start) => refuse_if(
+            charging::is_before(t, start, period),
+            14,
+            Check::Pass,
+        ),
+    }
 }
 
 // Rows 7, 12 and 14.
 fn period_refusal(r: Record, leg: Leg, t: Tenths) -> Check
-    ensures { λ c. ⌜ c ≡ firstOf (rowsOf r (Kind.PeriodOver leg) t []) ⌝ }
+    ensures { λ c. ⌜ c ≡ firstOf (row7 r t ∷ row12 (isStarted (legAt leg r .charge)) ∷ row14 r leg t ∷ []) ⌝ }
 {
     let last = r.last;
     let l = record::leg_at(leg, r);
     let charge = l.charge;
-    answers::refuse_if(t.0 < last.0, 7, charging::period_check(charge, t))
+    refuse_if(t.0 < last.0, 7, period_check(charge, t))
 }
 
 // Rows 7 and 8, and those after them: an operation that needs control.
@@ -48,7 +78,7 @@ fn control_refusal(r: Record, t: Tenths, then: Check) -> Check
 {
     let last = r.last;
     let control = relationship::is_control(relationship::relationship_of(r));
-    answers::refuse_if(t.0 < last.0, 7, answers::refuse_if(!control, 8, then))
+    refuse_if(t.0 < last.0, 7, refuse_if(!control, 8, then))
 }
 
 // Rows 7 and 8 of an operation that needs any relationship.
@@ -57,11 +87,7 @@ fn related_refusal(r: Record, t: Tenths) -> Check
 {
     let last = r.last;
     let related = relationship::is_related(relationship::relationship_of(r));
-    answers::refuse_if(
-        t.0 < last.0,
-        7,
-        answers::refuse_if(!related, 8, Check::Pass),
-    )
+    refuse_if(t.0 < last.0, 7, refuse_if(!related, 8, Check::Pass))
 }
 
 // Rows 12 and 13 of Apply charging.
@@ -71,9 +97,9 @@ fn charging_refusal(r: Record, leg: Leg) -> Check
     let leg1 = r.leg1;
     let l = record::leg_at(leg, r);
     let charge = l.charge;
-    let possible = charging::is_present(leg1) & charging::is_present(l);
-    let pending = answers::refuse_if(charging::is_pending(charge), 13, Check::Pass);
-    answers::refuse_if(!possible, 12, pending)
+    let possible = record::is_present(leg1) & record::is_present(l);
+    let pending = refuse_if(record::is_pending(charge), 13, Check::Pass);
+    refuse_if(!possible, 12, pending)
 }
 
 // Rows 10 and 12 of Connect.
@@ -81,25 +107,43 @@ fn connect_refusal(r: Record) -> Check
     ensures { λ c. ⌜ c ≡ firstOf (row10 r ∷ row12 (canConnect r) ∷ []) ⌝ }
 {
     let h = r.hold;
-    let possible = answers::refuse_if(!operations::can_connect(r), 12, Check::Pass);
-    answers::refuse_if(!relationship::is_held(h), 10, possible)
+    let possible = refuse_if(!operations::can_connect(r), 12, Check::Pass);
+    refuse_if(!record::is_held(h), 10, possible)
+}
+
+// Refusals 11 and 12: every entry is tested for 11 before any for 12.
+fn entries_refusal(r: Record, n: u8, t: &[u8]) -> Check
+    ensures { λ c. ⌜ c ≡ firstOf (row11 originating (entriesOf n (now (t .entry))) ∷ row12 (arePossible originating r (entriesOf n (now (t .entry)))) ∷ []) ⌝ }
+{
+    let mut seen = [false; 10];
+    let mut possible = true;
+    let mut i: u8 = 0;
+    while i < n {
+        let e = item::nth_entry(t, i);
+        let x = points::role_in(e.leg, e.point);
+        if request::is_good(x, seen, e) {
+            let k = request::place_named(x);
+            seen[k] = true;
+            possible = possible & request::is_possible(r, x, e.mode);
+            i += 1;
+        } else {
+            return Check::Fail(11);
+        }
+    }
+    refuse_if(!possible, 12, Check::Pass)
 }
 
 // The first row that applies to the item.
 pub(crate) fn refusal(r: Record, k: Kind, t: Tenths, rest: &[u8]) -> Check
-    ensures { λ c. ⌜ c ≡ firstOf (rowsOf r k t (now (rest .entry))) ⌝ }
+    ensures { λ c. ⌜ c ≡ firstOf (rowsOf originating r k t (now (rest .entry))) ⌝ }
 {
     let h = r.hold;
     match k {
         Kind::Setup(_, _, _, _) => Check::Fail(5),
         Kind::Event(p) => event_refusal(r, p, t),
         Kind::PeriodOver(leg) => period_refusal(r, leg, t),
-        Kind::RequestReport(n) => control_refusal(r, t, arming::entries_refusal(r, n, rest)),
-        Kind::Continue => control_refusal(
-            r,
-            t,
-            answers::refuse_if(!relationship::is_held(h), 10, Check::Pass),
-        ),
+        Kind::RequestReport(n) => control_refusal(r, t, entries_refusal(r, n, rest)),
+        Kind::Continue => control_refusal(r, t, refuse_if(!record::is_held(h), 10, Check::Pass)),
         Kind::Connect(_, _) => control_refusal(r, t, connect_refusal(r)),
         Kind::Release => control_refusal(r, t, Check::Pass),
         Kind::ApplyCharging(leg, _) => control_refusal(r, t, charging_refusal(r, leg)),

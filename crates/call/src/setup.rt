@@ -1,16 +1,21 @@
 // Setup: a call is opened (document 01, Triggering; A call by itself).
 ghost use mathlib.Core.Path.{_≡_};
+ghost use Rattle.call.specs.Points.{originating};
 ghost use Prim.Native.Nat.{_<_};
 ghost use lib.ListN.{length};
 ghost use Rattle.forms.specs.Units.{clockEnd};
 ghost use Rattle.call.specs.Setup.{opened, begun, openAs, openOf};
 use crate::answers;
 use crate::answers::*;
+use crate::armings;
+use crate::charging::ChargeReport;
+use crate::kind;
+use crate::kind::Kind;
 use crate::operations;
+use crate::points;
 use crate::record;
 use crate::record::*;
-use crate::step;
-use crate::step::Kind;
+use crate::stages::Stage;
 use crate::trigger;
 use forms::item;
 use forms::item::Item;
@@ -32,7 +37,7 @@ fn opened_record(
         presence: Presence::Present,
         charge: Charge::None,
     };
-    let armings = record::no_armings();
+    let armings = armings::no_armings();
     Record {
         stage: Stage::Analysing,
         leg1: present,
@@ -47,15 +52,16 @@ fn opened_record(
     }
 }
 
-// Held at 2 and reported, or routed by the profile's timer.
+// Held at the trigger and reported, or routed by the profile's timer.
 fn begin(triggered: bool, timer: Seconds, handling: Handling, number: Number, t: Tenths) -> Stepped
     requires { ⌜ t .0 < clockEnd ⌝ }
-    ensures { λ s. ⌜ s ≡ begun triggered timer handling number t ⌝ }
+    ensures { λ s. ⌜ s ≡ begun originating triggered timer handling number t ⌝ }
 {
     if triggered {
         let held = opened_record(timer, handling, number, Hold::Trigger, t);
+        let trigger = points::trigger();
         let reports = Reports {
-            event: Report::Trigger,
+            event: Report::Interrupting(trigger),
             charge1: ChargeReport::None,
             charge2: ChargeReport::None,
         };
@@ -116,7 +122,7 @@ pub fn open(item: Item, rest: &[u8], s: &[u8]) -> Stepped
     let body = item.body;
     let t = item.time;
     if item::in_range(item, rest) {
-        open_as(step::kind_of(body, Stage::Analysing), t, rest, s)
+        open_as(kind::kind_of(body, Stage::Analysing), t, rest, s)
     } else {
         answers::refuse(record::blank_record(), 1)
     }

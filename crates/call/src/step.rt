@@ -1,79 +1,36 @@
 // One call's answer and next record for an item (document 01, One call).
 ghost use mathlib.Core.Path.{_≡_};
+ghost use Rattle.call.specs.Points.{originating};
 ghost use Prim.Native.Nat.{_<_};
 ghost use Rattle.forms.specs.Units.{clockEnd};
-ghost use Rattle.call.specs.Step.{kindOf, served, respondOf, stepOf};
+ghost use Rattle.call.specs.Step.{served, respondOf, stepOf};
 use crate::answers;
 use crate::answers::*;
-use crate::arming;
 use crate::events;
+use crate::kind;
+use crate::kind::Kind;
 use crate::operations;
-use crate::points::Role;
+use crate::points;
 use crate::range;
 use crate::record;
-use crate::record::*;
+use crate::record::Record;
 use crate::refusals;
+use crate::refusals::Check;
+use crate::request;
 use forms::item;
-use forms::item::*;
+use forms::item::Item;
 use forms::units::*;
-
-// What an item asks of a call: an event is the role that it meets.
-pub(crate) enum Kind {
-    // Nature, service, forwarded, digit count.
-    Setup(u8, u8, bool, u8),
-    Event(Role),
-    PeriodOver(Leg),
-    // Count of entries.
-    RequestReport(u8),
-    Continue,
-    // Nature, digit count.
-    Connect(u8, u8),
-    Release,
-    // Leg, period.
-    ApplyCharging(Leg, Tenths),
-    ActivityTest,
-    Abort,
-}
-
-pub(crate) fn kind_of(body: Body, s: Stage) -> Kind
-    ensures { λ k. ⌜ k ≡ kindOf body s ⌝ }
-{
-    match body {
-        Body::Setup(nature, service, forwarded, count) => Kind::Setup(
-            nature,
-            service,
-            forwarded,
-            count,
-        ),
-        Body::RouteFailure(_) => Kind::Event(Role::RouteFailure),
-        Body::Busy(_) => Kind::Event(Role::Busy),
-        Body::NoAnswer => Kind::Event(Role::NoAnswer),
-        Body::Seized => Kind::Event(Role::Seized),
-        Body::Answer => Kind::Event(Role::Answer),
-        Body::MidCall(_) => Kind::Event(Role::MidCall),
-        Body::Moved => Kind::Event(Role::Moved),
-        Body::Clear(leg, _) => Kind::Event(events::clear_of(leg, s)),
-        Body::PeriodOver(leg) => Kind::PeriodOver(leg),
-        Body::RequestReport(count) => Kind::RequestReport(count),
-        Body::Continue => Kind::Continue,
-        Body::Connect(nature, count) => Kind::Connect(nature, count),
-        Body::Release => Kind::Release,
-        Body::ApplyCharging(leg, period) => Kind::ApplyCharging(leg, period),
-        Body::ActivityTest => Kind::ActivityTest,
-        Body::Abort => Kind::Abort,
-    }
-}
 
 // An accepted item: its digits or entries stand in `rest`.
 fn serve(r: Record, k: Kind, t: Tenths, rest: &[u8]) -> Stepped
     requires { ⌜ t .0 < clockEnd ⌝ }
-    ensures { λ s. ⌜ s ≡ served r k t (now (rest .entry)) ⌝ }
+    ensures { λ s. ⌜ s ≡ served originating r k t (now (rest .entry)) ⌝ }
 {
     match k {
         Kind::Setup(_, _, _, _) => answers::refuse(r, 5),
         Kind::Event(p) => events::meet(r, p, t),
         Kind::PeriodOver(leg) => operations::period_over(r, leg, t),
-        Kind::RequestReport(n) => arming::request_report(r, n, rest, t),
+        Kind::RequestReport(n) => request::request_report(r, n, rest, t),
         Kind::Continue => operations::continue_on(r, t),
         Kind::Connect(nature, count) => operations::connect(r, nature, count, rest, t),
         Kind::Release => answers::end(r, Report::None, t),
@@ -90,8 +47,8 @@ pub fn respond(r: Record, item: Item, rest: &[u8]) -> Stepped
     let body = item.body;
     let t = item.time;
     let stage = r.stage;
-    let k = kind_of(body, stage);
-    let c = answers::refuse_if(
+    let k = kind::kind_of(body, stage);
+    let c = refusals::refuse_if(
         !(t.0 < Tenths::CLOCK_END.0),
         1,
         refusals::refusal(r, k, t, rest),
@@ -106,8 +63,8 @@ pub fn respond(r: Record, item: Item, rest: &[u8]) -> Stepped
 pub fn step(r: Record, item: Item, rest: &[u8]) -> Stepped
     ensures { λ s. ⌜ s ≡ stepOf r item (now (rest .entry)) ⌝ }
 {
-    let damaged = answers::refuse_if(!range::record_in_range(r), 3, Check::Pass);
-    let c = answers::refuse_if(!item::in_range(item, rest), 1, damaged);
+    let damaged = refusals::refuse_if(!range::record_in_range(r), 3, Check::Pass);
+    let c = refusals::refuse_if(!item::in_range(item, rest), 1, damaged);
     match c {
         Check::Pass => respond(r, item, rest),
         Check::Fail(n) => answers::refuse(r, n),

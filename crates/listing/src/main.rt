@@ -14,9 +14,9 @@ use forms::profile;
 use forms::profile::ReadProfile;
 use input::HALF;
 use input::Place;
-use table::entry;
 use table::feed;
 use table::line;
+use table::slot;
 
 // One buffer serves both ways: the input stands in its first half, the output in its second. The profile stays at the front of the input, in `keep` bytes. The item to be answered, where there is one more, has `size` bytes at place `at`, and
 // `number` is its number. The input that was read ends at `end`; the output is filled to `filled`. `refusal` ends the listing, unless it is 0.
@@ -139,7 +139,7 @@ fn start(buf: &mut [u8]) -> State {
         at: place.at,
         size: n,
         end: place.end,
-        filled: line::header(buf, HALF),
+        filled: line::place_after(line::header(buf, HALF), HALF),
         number: 0,
         refusal: if place.failed { 0 } else { 2 },
         more: false,
@@ -164,7 +164,8 @@ fn advance(buf: &mut [u8], s: State, answer: Answer) -> State
     ensures { λ r. ⌜ remaining r < past (s .number) ⌝ }
 {
     let mut t = s;
-    t.filled = line::line(buf, s.filled, s.number, answer);
+    let printed = line::line(buf, s.filled, s.number, answer);
+    t.filled = line::place_after(printed, s.filled);
     fetch(buf, t)
 }
 
@@ -173,17 +174,17 @@ fn finish(buf: &mut [u8], s: State) {
     if s.refusal == 0 {
         output::flush(buf, s.filled);
     } else {
-        let filled = line::line(buf, s.filled, s.number, Answer::Refused(s.refusal));
-        output::flush(buf, filled);
+        let printed = line::line(buf, s.filled, s.number, Answer::Refused(s.refusal));
+        output::flush(buf, line::place_after(printed, s.filled));
     }
 }
 
 // Owns the table, and lends it item by item. A fresh table is sound and stays so, so no item is checked for refusal 3.
 fn run(buf: &mut [u8]) {
-    let mut entries = entry::fresh();
+    let mut slots = slot::fresh();
     let mut s = start(buf);
     while s.more {
-        let a = feed::feed_sound(&mut entries, item_of(buf, s), profile_of(buf, s));
+        let a = feed::feed_sound(&mut slots, item_of(buf, s), profile_of(buf, s));
         let next = advance(buf, s, a);
         s = next;
     }

@@ -15,29 +15,28 @@ use Rattle.forms.specs.declared.item.Body.the-variants as body
 use Rattle.forms.proofs.Cases as forms
 use Rattle.call.specs.declared.answers.Answer.the-variants.{Refused}
 use Rattle.call.specs.declared.record.Charge.the-variants.{Running}
-use Rattle.call.specs.Record.{armedAs, withLegs}
-use Rattle.call.specs.Charging.{leg}
-use Rattle.call.specs.Relationship.{someArmed}
+use Rattle.call.specs.Armings.{someArmed}
+use Rattle.call.specs.Record.{armedAs, withLegs, leg}
 use Rattle.call.specs.Trigger.{triggers}
-use Rattle.call.specs.Arming.{entriesOf, areGood, arePossible, armedWith}
+use Rattle.call.specs.Request.{entriesOf, areGood, arePossible, armedWith}
 use Rattle.call.specs.Events.{met}
 use Rattle.call.specs.Operations.{continued, aborted}
-use Rattle.call.specs.Range.{placesInRange, numberInRange, recordInRange, isBlank}
-use Rattle.call.specs.Step.{respondOf}
+use Rattle.call.specs.Range.{placesInRange, numberInRange, inRangeOf, isBlank}
+use Rattle.call.specs.Step.{respondIn}
 use Rattle.call.specs.Setup.{openOf}
-use Rattle.call.specs.Alone.{Fed, aloneStep}
+use Rattle.call.specs.Alone.{Input, aloneStep}
 use Rattle.call.proofs.Cases as call
-use Rattle.table.specs.declared.entry.Owner.the-variants.{Free}
+use Rattle.table.specs.declared.slot.Owner.the-variants.{Free}
 use Rattle.table.specs.declared.lookup.Spot.the-variants as spot
-use Rattle.table.specs.Types.{ReadItem, Record, Answer, Entry, Spot}
+use Rattle.table.specs.Types.{ReadItem, Record, Answer, Slot, Spot}
 use Rattle.table.specs.Runs.{consIf, only, log, final, eachAlone}
-use Rattle.table.specs.Table.{ofCall, next, find, all, first, look, fresh, once, isSound, unless, store, place, setupAt, otherAt, serve, damage, tableStep}
-use Rattle.table.specs.Entry.{ownerOf, ownedBy, blankEntry, ourSlots}
+use Rattle.table.specs.Table.{ofCall, next, find, all, first, look, fresh, once, isSound, unless, store, seat, setupAt, otherAt, serve, damage, tableStep}
+use Rattle.table.specs.Slot.{ownerOf, ownedBy, blankSlot, ourSlots}
 use Rattle.table.specs.Feed.{earlyOf, ourCall, feedStep}
 use Rattle.table.specs.Independence.{itemsOf, linesOf}
 use Rattle.table.specs.Check.{calls, among, isOnce}
-use Rattle.table.specs.Lookup.{locateOf, placeOf}
-use Rattle.table.specs.Serve.{actedOf, entryAfter, damagedOf}
+use Rattle.table.specs.Lookup.{locateOf, slotOf}
+use Rattle.table.specs.Serve.{actedOf, slotAfter, damagedOf}
 use Rattle.table.specs.Demands.{byItself}
 use Rattle.table.proofs.LineCases.{triggered, ended}
 
@@ -63,8 +62,8 @@ pub data Edge : Type 0 where
 -- bytes and what they read as; a table, what is fed to it first, and then items with their answers; what is fed to a fresh table, and the owners of its first slots
 pub data Shown : Type 0 where
   reads : List ℕ → ReadItem → Shown
-  answers : List Entry → List Fed → List (Fed × Answer) → Shown
-  owners : List Fed → List (Option ℕ) → Shown
+  answers : List Slot → List Input → List (Input × Answer) → Shown
+  owners : List Input → List (Option ℕ) → Shown
 
 pub record Case : Type 0 where
   pub edge : Edge
@@ -77,12 +76,12 @@ pub data Result : Type 0 where
 
 abbrev computed : Shown → Result
 computed (reads s r) = reading (readItem s)
-computed (answers t before l) = answered (map (λ (e : Fed × Answer). e .1) (log feedStep (final feedStep t before) (map (λ (e : Fed × Answer). e .0) l)))
-computed (owners l o) = owned (map (λ (e : Entry). ownerOf (e .owner)) (take 4 (final feedStep (fresh ourSlots) l)))
+computed (answers t before l) = answered (map (λ (e : Input × Answer). e .1) (log feedStep (final feedStep t before) (map (λ (e : Input × Answer). e .0) l)))
+computed (owners l o) = owned (map (λ (e : Slot). ownerOf (e .owner)) (take 4 (final feedStep (fresh ourSlots) l)))
 
 abbrev wanted : Shown → Result
 wanted (reads s r) = reading r
-wanted (answers t before l) = answered (map (λ (e : Fed × Answer). e .1) l)
+wanted (answers t before l) = answered (map (λ (e : Input × Answer). e .1) l)
 wanted (owners l o) = owned o
 
 -- each case with the edge that it shows, the last ones with `OneCall`
@@ -96,40 +95,40 @@ named (e ∷ es) (s ∷ l) = record { edge = e; shown = s } ∷ named es l
 abbrev plain : List ℕ
 plain = 0x00 ∷ 0x0A ∷ 0x01 ∷ 0x00 ∷ 0x78 ∷ 0x00 ∷ 0x00 ∷ 0x00 ∷ 0x00 ∷ 0x00 ∷ []
 
-abbrev itemOfCall : ℕ → Body → List ℕ → Fed
+abbrev itemOfCall : ℕ → Body → List ℕ → Input
 itemOfCall k b rest = record { item = itemBytes (record { call = k; time = record { 0 = 1000 }; body = b }) rest; profile = plain }
 
-abbrev setup : ℕ → Fed
+abbrev setup : ℕ → Input
 setup k = itemOfCall k (body.Setup 4 0 false 1) (4 ∷ [])
 
-abbrev release : ℕ → Fed
+abbrev release : ℕ → Input
 release k = itemOfCall k body.Release []
 
 -- an item with no profile beside it, which is malformed if it is a Setup
-abbrev bare : Fed → Fed
+abbrev bare : Input → Input
 bare x = record { item = x .item; profile = [] }
 
 -- no item; a Setup and one byte more, with no profile either
-abbrev malformed : Fed
+abbrev malformed : Input
 malformed = record { item = []; profile = plain }
 
-abbrev tooLong : Fed
+abbrev tooLong : Input
 tooLong = record { item = setup 9 .item ++ (0 ∷ []); profile = [] }
 
 -- Setups of the calls n, …, 1
-abbrev setups : ℕ → List Fed
+abbrev setups : ℕ → List Input
 setups zero = []
 setups (suc n) = setup (suc n) ∷ setups n
 
 -- ---- tables: call 7 open in slot 0, with its record changed as given; and slot 1 changed
 
-abbrev open7 : List Entry
+abbrev open7 : List Slot
 open7 = final feedStep (fresh ourSlots) (setup 7 ∷ [])
 
 abbrev record7 : Record
-record7 = getD open7 0 blankEntry .body
+record7 = getD open7 0 blankSlot .body
 
-abbrev with7 : Record → List Entry
+abbrev with7 : Record → List Slot
 with7 r = set open7 0 (ownedBy 7 r)
 
 -- a kept timer; a charge of leg 2 started at a time (the last time is 1000)
@@ -140,13 +139,13 @@ abbrev startedAt : ℕ → Record
 startedAt n = withLegs record7 (record7 .leg1) (leg (record7 .leg2 .presence) (Running (record { 0 = 600 }) (record { 0 = n })))
 
 -- refusal 3: "table not 64 records, a field out of range, a free record not blank, start later than last time, or one call twice"
-abbrev damaged : List (List Entry)
+abbrev damaged : List (List Slot)
 damaged =
-    drop 1 (fresh ourSlots) ∷ (blankEntry ∷ fresh ourSlots) ∷ with7 (keeps 2048) ∷ set open7 1 (record { owner = Free; body = record7 })
+    drop 1 (fresh ourSlots) ∷ (blankSlot ∷ fresh ourSlots) ∷ with7 (keeps 2048) ∷ set open7 1 (record { owner = Free; body = record7 })
     ∷ with7 (startedAt 1001) ∷ set open7 1 (ownedBy 7 record7) ∷ []
 
 -- beside them, still in range
-abbrev sound : List (List Entry)
+abbrev sound : List (List Slot)
 sound = open7 ∷ with7 (keeps 2047) ∷ with7 (startedAt 1000) ∷ set open7 1 (ownedBy 8 record7) ∷ []
 
 -- ---- the cases
@@ -167,60 +166,60 @@ shown =
     ∷ owners (setups 64 ++ (release 62 ∷ setup 65 ∷ [])) (some 64 ∷ some 63 ∷ some 65 ∷ some 61 ∷ [])
     ∷ [])
     -- refusal 3 comes after 1 and 2, and before 4 and 5; only a Setup's profile counts
-    ++ map (λ (t : List Entry). record { edge = Damage; shown = answers t [] ((malformed, Refused 1) ∷ (tooLong, Refused 1) ∷ (bare (setup 9), Refused 2) ∷ (bare (release 9), Refused 3) ∷ (setup 7, Refused 3) ∷ []) }) damaged
-    ++ map (λ (t : List Entry). record { edge = Damage; shown = answers t [] ((tooLong, Refused 1) ∷ (bare (setup 7), Refused 2) ∷ (bare (release 9), Refused 4) ∷ (setup 7, Refused 5) ∷ []) }) sound
+    ++ map (λ (t : List Slot). record { edge = Damage; shown = answers t [] ((malformed, Refused 1) ∷ (tooLong, Refused 1) ∷ (bare (setup 9), Refused 2) ∷ (bare (release 9), Refused 3) ∷ (setup 7, Refused 3) ∷ []) }) damaged
+    ++ map (λ (t : List Slot). record { edge = Damage; shown = answers t [] ((tooLong, Refused 1) ∷ (bare (setup 7), Refused 2) ∷ (bare (release 9), Refused 4) ∷ (setup 7, Refused 5) ∷ []) }) sound
 
 pub cases : map (λ (c : Case). computed (c .shown)) shown ≡ map (λ (c : Case). wanted (c .shown)) shown
-unfolding flatten bytes.all contains leads same itemBytes itemInRange restAt bodyFrom bodyOf itemOf isItem readItem entryOf fieldsOf profileBytes profileInRange numbersAt numbersEnd viewAt profileOf isProfile someMatches triggers someArmed entriesOf areGood arePossible armedWith met continued aborted respondOf openOf placesInRange numberInRange recordInRange isBlank log final next find all fresh once isSound unless store place setupAt otherAt serve damage tableStep blankEntry earlyOf
+unfolding flatten bytes.all contains leads same itemBytes itemInRange restAt bodyFrom bodyOf itemOf isItem readItem entryOf fieldsOf profileBytes profileInRange numbersAt numbersEnd viewAt profileOf isProfile someMatches triggers someArmed entriesOf areGood arePossible armedWith met continued aborted respondIn openOf placesInRange numberInRange inRangeOf isBlank log final next find all fresh once isSound unless store seat setupAt otherAt serve damage tableStep blankSlot earlyOf
 cases = refl
 
 -- ---- two calls by turns, one closed and opened again, and a third that is not open
 
-abbrev turns : List (Fed × Answer)
+abbrev turns : List (Input × Answer)
 turns =
     (setup 7, triggered) ∷ (setup 8, triggered) ∷ (release 7, ended) ∷ (release 7, Refused 4) ∷ (setup 8, Refused 5) ∷ (release 9, Refused 4) ∷ (setup 7, triggered)
     ∷ (bare (setup 8), Refused 2) ∷ (release 8, ended) ∷ []
 
-abbrev items : List Fed
-items = map (λ (e : Fed × Answer). e .0) turns
+abbrev items : List Input
+items = map (λ (e : Input × Answer). e .0) turns
 
-abbrev answersIn : List (Fed × Answer) → List Answer
-answersIn = map (λ (e : Fed × Answer). e .1)
+abbrev answersIn : List (Input × Answer) → List Answer
+answersIn = map (λ (e : Input × Answer). e .1)
 
-abbrev ownersIn : List Entry → List (Option ℕ)
-ownersIn t = map (λ (e : Entry). ownerOf (e .owner)) (take 4 t)
+abbrev ownersIn : List Slot → List (Option ℕ)
+ownersIn t = map (λ (e : Slot). ownerOf (e .owner)) (take 4 t)
 
--- an item on a sound table as the code takes it, by the definitions of its parts: the spot, what is made of its entry, and the entry stored again
-abbrev stepAt : List Entry → Fed → Spot → Answer × List Entry
+-- an item on a sound table as the code takes it, by the definitions of its parts: the spot, what is made of its slot, and the slot stored again
+abbrev stepAt : List Slot → Input → Spot → Answer × List Slot
 stepAt t x s =
-    let e = getD t (placeOf s) blankEntry in
+    let e = getD t (slotOf s) blankSlot in
     let a = actedOf s (e .body) (x .item) (x .profile) in
-    (a .answer, set t (placeOf s) (entryAfter e (callIn (x .item)) a))
+    (a .answer, set t (slotOf s) (slotAfter e (callIn (x .item)) a))
 
-abbrev codeStep : List Entry → Fed → Answer × List Entry
+abbrev codeStep : List Slot → Input → Answer × List Slot
 codeStep t x = stepAt t x (locateOf (callIn (x .item)) t)
 
 -- the answers on the table, of each call by itself, and of the code's parts
 pub by-turns : answersIn (log feedStep (fresh ourSlots) items) ∷ answersIn (eachAlone byItself (ofCall ourCall) (ourCall .call) none [] items) ∷ answersIn (log codeStep (fresh ourSlots) items) ∷ []
     ≡ answersIn turns ∷ answersIn turns ∷ answersIn turns ∷ []
-unfolding flatten bytes.all contains leads same itemBytes itemInRange restAt bodyFrom bodyOf itemOf isItem readItem entryOf fieldsOf profileBytes profileInRange numbersAt numbersEnd viewAt profileOf isProfile someMatches triggers someArmed entriesOf areGood arePossible armedWith met continued aborted respondOf openOf placesInRange numberInRange recordInRange isBlank log final next find all fresh once isSound unless store place setupAt otherAt serve damage tableStep blankEntry earlyOf eachAlone only consIf aloneStep actedOf
+unfolding flatten bytes.all contains leads same itemBytes itemInRange restAt bodyFrom bodyOf itemOf isItem readItem entryOf fieldsOf profileBytes profileInRange numbersAt numbersEnd viewAt profileOf isProfile someMatches triggers someArmed entriesOf areGood arePossible armedWith met continued aborted respondIn openOf placesInRange numberInRange inRangeOf isBlank log final next find all fresh once isSound unless store seat setupAt otherAt serve damage tableStep blankSlot earlyOf eachAlone only consIf aloneStep actedOf
 by-turns = refl
 
 -- what they leave: call 7 in slot 0
 pub left-by-turns : map ownersIn (final feedStep (fresh ourSlots) items ∷ final codeStep (fresh ourSlots) items ∷ []) ≡ map (λ (n : ℕ). some 7 ∷ none ∷ none ∷ none ∷ []) (1 ∷ 2 ∷ [])
-unfolding flatten bytes.all contains leads same itemBytes itemInRange restAt bodyFrom bodyOf itemOf isItem readItem entryOf fieldsOf profileBytes profileInRange numbersAt numbersEnd viewAt profileOf isProfile someMatches triggers someArmed entriesOf areGood arePossible armedWith met continued aborted respondOf openOf placesInRange numberInRange recordInRange isBlank log final next find all fresh once isSound unless store place setupAt otherAt serve damage tableStep blankEntry earlyOf actedOf
+unfolding flatten bytes.all contains leads same itemBytes itemInRange restAt bodyFrom bodyOf itemOf isItem readItem entryOf fieldsOf profileBytes profileInRange numbersAt numbersEnd viewAt profileOf isProfile someMatches triggers someArmed entriesOf areGood arePossible armedWith met continued aborted respondIn openOf placesInRange numberInRange inRangeOf isBlank log final next find all fresh once isSound unless store seat setupAt otherAt serve damage tableStep blankSlot earlyOf actedOf
 left-by-turns = refl
 
 -- ---- of each call: its items, their answers, and its record in a table (by its kept timer)
 
-abbrev two : List Entry
+abbrev two : List Slot
 two = set open7 1 (ownedBy 8 (keeps 30))
 
 abbrev keptIn : Option Record → Option ℕ
 keptIn none = none
 keptIn (some r) = some (r .kept .0)
 
-abbrev its : ℕ → List Fed × List Answer × Option ℕ
+abbrev its : ℕ → List Input × List Answer × Option ℕ
 its k = (itemsOf ourCall k items, answersIn (linesOf ourCall k turns), keptIn (look ourSlots k two))
 
 pub of-each-call : map its (7 ∷ 8 ∷ 9 ∷ [])
@@ -228,13 +227,13 @@ pub of-each-call : map its (7 ∷ 8 ∷ 9 ∷ [])
     ∷ (setup 8 ∷ setup 8 ∷ bare (setup 8) ∷ release 8 ∷ [], triggered ∷ Refused 5 ∷ Refused 2 ∷ ended ∷ [], some 30)
     ∷ (release 9 ∷ [], Refused 4 ∷ [], none)
     ∷ []
-unfolding flatten bytes.all contains leads same itemBytes itemInRange restAt bodyFrom bodyOf itemOf isItem readItem entryOf fieldsOf profileBytes profileInRange numbersAt numbersEnd viewAt profileOf isProfile someMatches triggers someArmed entriesOf areGood arePossible armedWith met continued aborted respondOf openOf placesInRange numberInRange recordInRange isBlank log final next find all fresh once isSound unless store place setupAt otherAt serve damage tableStep blankEntry earlyOf only consIf look first
+unfolding flatten bytes.all contains leads same itemBytes itemInRange restAt bodyFrom bodyOf itemOf isItem readItem entryOf fieldsOf profileBytes profileInRange numbersAt numbersEnd viewAt profileOf isProfile someMatches triggers someArmed entriesOf areGood arePossible armedWith met continued aborted respondIn openOf placesInRange numberInRange inRangeOf isBlank log final next find all fresh once isSound unless store seat setupAt otherAt serve damage tableStep blankSlot earlyOf only consIf look first
 of-each-call = refl
 
 -- ---- the code's parts: where a call stands, with room and on a full table; one call twice; what is answered on a damaged table
 
 -- owned by the calls n, …, 1
-abbrev full : ℕ → List Entry
+abbrev full : ℕ → List Slot
 full zero = []
 full (suc n) = ownedBy (suc n) record7 ∷ full n
 
@@ -242,13 +241,13 @@ abbrev located : List Spot
 located = map (λ (k : ℕ). locateOf k two) (7 ∷ 8 ∷ 9 ∷ []) ++ map (λ (k : ℕ). locateOf k (full 64)) (1 ∷ 65 ∷ [])
 
 abbrev areOnce : List Bool
-areOnce = map (λ (t : List Entry). isOnce (calls t)) (two ∷ set two 9 (ownedBy 7 record7) ∷ [])
+areOnce = map (λ (t : List Slot). isOnce (calls t)) (two ∷ set two 9 (ownedBy 7 record7) ∷ [])
 
 abbrev onDamage : List Answer
-onDamage = map (λ (x : Fed). damagedOf (x .item) (x .profile)) (malformed ∷ tooLong ∷ bare (setup 9) ∷ bare (release 9) ∷ setup 7 ∷ [])
+onDamage = map (λ (x : Input). damagedOf (x .item) (x .profile)) (malformed ∷ tooLong ∷ bare (setup 9) ∷ bare (release 9) ∷ setup 7 ∷ [])
 
 pub parts : (located ≡ spot.Own 0 ∷ spot.Own 1 ∷ spot.Free 2 ∷ spot.Own 63 ∷ spot.Nowhere ∷ [])
     × (areOnce ≡ true ∷ false ∷ [])
     × (onDamage ≡ Refused 1 ∷ Refused 1 ∷ Refused 2 ∷ Refused 3 ∷ Refused 3 ∷ [])
-unfolding flatten bytes.all contains leads same itemBytes itemInRange restAt bodyFrom bodyOf itemOf isItem readItem entryOf fieldsOf profileBytes profileInRange numbersAt numbersEnd viewAt profileOf isProfile someMatches triggers someArmed entriesOf areGood arePossible armedWith met continued aborted respondOf openOf placesInRange numberInRange recordInRange isBlank log final next find all fresh once isSound unless store place setupAt otherAt serve damage tableStep blankEntry earlyOf calls among isOnce damagedOf readProfile
+unfolding flatten bytes.all contains leads same itemBytes itemInRange restAt bodyFrom bodyOf itemOf isItem readItem entryOf fieldsOf profileBytes profileInRange numbersAt numbersEnd viewAt profileOf isProfile someMatches triggers someArmed entriesOf areGood arePossible armedWith met continued aborted respondIn openOf placesInRange numberInRange inRangeOf isBlank log final next find all fresh once isSound unless store seat setupAt otherAt serve damage tableStep blankSlot earlyOf calls among isOnce damagedOf readProfile
 parts = (refl, refl, refl)

@@ -1,4 +1,4 @@
--- The check for refusal 3: 'one call twice' over the calls that own entries, and what a pass over the entries has found out so far.
+-- The check for refusal 3: 'one call twice' over the calls that own slots, and what a pass over the slots has found out so far.
 use Prim.Native.Nat.{ℕ, suc, _+_, _≤_, _<_}
 use native.Mathlib.Omega.{arith}
 use native.Mathlib.Nat.{add-zero}
@@ -11,9 +11,9 @@ use lib.Dec.{eqb}
 use lib.ListN.{length, getD, set, take, drop, drop-of-length-le}
 use lib.Seq.{drop-cons, take-set-le, take-suc-set}
 use borrow.Author.Tests.{eq-eqb, ne-eqb}
-use Rattle.table.specs.Types.{Entry}
+use Rattle.table.specs.Types.{Slot}
 use Rattle.table.specs.Table.{next, find, all, isNone, isCall, owns, isSoundSlot, absent, once, isSound}
-use Rattle.table.specs.Entry.{ourSlots, ownerOf, blankEntry}
+use Rattle.table.specs.Slot.{ourSlots, ownerOf, blankSlot}
 use Rattle.table.specs.Check.{consCall, calls, callOf, countOf, among, isOnce}
 
 -- ---- the calls, from a place on
@@ -37,7 +37,7 @@ module _ (l : List ℕ) (i : ℕ) where
   unfolding isOnce
   once-end h = rw (drop-of-length-le l h)
 
--- ---- no call owns two entries exactly if none stands twice among the calls
+-- ---- no call owns two slots exactly if none stands twice among the calls
 
 none-next : (b : Bool) (o : Option ℕ) → isNone (next b o) ≡ not b && isNone o
 unfolding next
@@ -49,13 +49,13 @@ not-or : (a b : Bool) → not (a || b) ≡ not a && not b
 not-or true b = refl
 not-or false b = refl
 
--- an entry's owner before the calls of others
+-- a slot's owner before the calls of others
 among-cons : (k : ℕ) (o : Option ℕ) (l : List ℕ) → not (among k (consCall o l)) ≡ not (isCall k o) && not (among k l)
 unfolding among
 among-cons k none l = refl
 among-cons k (some j) l = not-or (eqb j k) (among k l)
 
-absent-among : (k : ℕ) (t : List Entry) → isNone (find (owns ourSlots k) t) ≡ not (among k (calls t))
+absent-among : (k : ℕ) (t : List Slot) → isNone (find (owns ourSlots k) t) ≡ not (among k (calls t))
 unfolding find among calls
 absent-among k [] = refl
 absent-among k (s ∷ t) = none-next (owns ourSlots k s) (find (owns ourSlots k) t) ∙ rw (absent-among k t) (sym (among-cons k (ownerOf (s .owner)) (calls t)))
@@ -64,36 +64,36 @@ not-and : (a b : Bool) → not a && b ≡ cond a false b
 not-and true b = refl
 not-and false b = refl
 
-once-cons : (o : Option ℕ) (t : List Entry) → absent ourSlots o t && isOnce (calls t) ≡ isOnce (consCall o (calls t))
+once-cons : (o : Option ℕ) (t : List Slot) → absent ourSlots o t && isOnce (calls t) ≡ isOnce (consCall o (calls t))
 unfolding isOnce
 once-cons none t = refl
 once-cons (some k) t = rw (absent-among k t) (not-and (among k (calls t)) (isOnce (calls t)))
 
-once-calls : (t : List Entry) → once ourSlots t ≡ isOnce (calls t)
+once-calls : (t : List Slot) → once ourSlots t ≡ isOnce (calls t)
 unfolding once isOnce calls
 once-calls [] = refl
 once-calls (s ∷ t) = rw (once-calls t) (once-cons (ownerOf (s .owner)) t)
 
--- ---- one pass: b is whether the entries before i are sound, the first n of l are their calls
+-- ---- one pass: b is whether the slots before i are sound, the first n of l are their calls
 
 -- an owner is added to the calls
 added : (o : Option ℕ) (l r : List ℕ) (n : ℕ) → n < length l → take (n + countOf o) (set l n (callOf o)) ++ r ≡ take n l ++ consCall o r
 added none l r n h = rw (add-zero n, take-set-le n l n 0 (omega arith))
 added (some k) l r n h = rw (add-one, take-suc-set l n k h) (append-assoc (take n l) (k ∷ []) r)
 
-module _ (t : List Entry) where
+module _ (t : List Slot) where
   abbrev pub Surveyed : Bool → List ℕ → ℕ → ℕ → Type 0
   Surveyed b l n i = (all (isSoundSlot ourSlots) t ≡ b && all (isSoundSlot ourSlots) (drop i t)) × (take n l ++ calls (drop i t) ≡ calls t)
 
   module _ (b : Bool) (l : List ℕ) (n i : ℕ) (s : Surveyed b l n i) where
     pub surveyed-on : i < length t → n < length l
-        → let e = getD t i blankEntry in let o = ownerOf (e .owner) in Surveyed (b && isSoundSlot ourSlots e) (set l n (callOf o)) (n + countOf o) (i + 1)
+        → let e = getD t i blankSlot in let o = ownerOf (e .owner) in Surveyed (b && isSoundSlot ourSlots e) (set l n (callOf o)) (n + countOf o) (i + 1)
     unfolding all calls
     surveyed-on h k =
-        let e = getD t i blankEntry in
+        let e = getD t i blankSlot in
         let o = ownerOf (e .owner) in (
-          s .0 ∙ rw (add-one, drop-cons t i blankEntry) (sym (and-assoc b (isSoundSlot ourSlots e) (all (isSoundSlot ourSlots) (drop (suc i) t)))),
-          rw add-one (added o l (calls (drop (suc i) t)) n k ∙ rw (drop-cons t i blankEntry h) at (s .1)),
+          s .0 ∙ rw (add-one, drop-cons t i blankSlot) (sym (and-assoc b (isSoundSlot ourSlots e) (all (isSoundSlot ourSlots) (drop (suc i) t)))),
+          rw add-one (added o l (calls (drop (suc i) t)) n k ∙ rw (drop-cons t i blankSlot h) at (s .1)),
         )
 
     pub surveyed-end : length t ≤ i → (b ≡ all (isSoundSlot ourSlots) t) × (take n l ≡ calls t)

@@ -1,7 +1,7 @@
 -- The three demands hold of whatever keeps to `feed`'s contract.
 use Prim.Native.Nat.{ℕ}
 use mathlib.Core.Path.{_≡_, refl, sym, ap, _∙_}
-use mathlib.Core.Bool.{Bool, true, false, cond, false≢true}
+use mathlib.Core.Bool.{Bool, true, false}
 use mathlib.Core.List.{List, [], _∷_, _++_, map}
 use mathlib.Core.Option.{Option, none, some}
 use lib.ListN.{getD, set, take, drop}
@@ -16,22 +16,23 @@ use Rattle.forms.specs.declared.feeder.Taken.{Taken}
 use Rattle.forms.specs.declared.feeder.Taken.the-variants as taken
 use Rattle.forms.proofs.ItemTheorems.{written-read, one-run}
 use Rattle.call.specs.declared.answers.Answer.the-variants.{Accepted, Refused}
+use Rattle.call.specs.Kind.{isSetup}
+use Rattle.call.specs.Step.{respondOf, stepOf}
 use Rattle.call.specs.Setup.{openOf}
-use Rattle.call.specs.Step.{isSetup, respondOf, stepOf}
-use Rattle.call.specs.Alone.{Fed}
+use Rattle.call.specs.Alone.{Input}
 use Rattle.call.proofs.Laws.{on-cond}
-use Rattle.call.specs.Answers.{isAccepted}
-use Rattle.call.proofs.CallTheorems.{isOver}
 use Rattle.call.proofs.Numbers.{isOneOf, accepted-one, one-of-more, respondNumbers, stepNumbers, openNumbers, respond-numbers, step-numbers, open-numbers}
+use Rattle.call.specs.Answers.{refusal as refusalOf, valuesOf}
+use Rattle.call.proofs.AnswerTheorems.{same-answer}
 use Rattle.call.proofs.Order.{either-order, either-order-items}
-use Rattle.table.specs.Types.{Record, Answer, Entry}
+use Rattle.table.specs.Types.{Record, Answer, Slot}
 use Rattle.table.specs.Runs.{log, final}
-use Rattle.table.specs.Table.{goes, ends, unless, damage, fresh, tableStep, serve, setupAt, otherAt, place, store}
-use Rattle.table.specs.Entry.{ownedBy, blankEntry, ourSlots}
+use Rattle.table.specs.Table.{refuses, goes, ends, unless, damage, fresh, tableStep, serve, setupAt, otherAt, seat, store}
+use Rattle.table.specs.Slot.{ownedBy, blankSlot, ourSlots}
 use Rattle.table.specs.Feed.{itemIn, restIn, earlyOf, effectAs, ourCall, isSoundTable, feedStep, Turn, Feeds}
 use Rattle.table.specs.EntryPoints.{EntryPoint, period, timer, read-item, read-item-at, write-item, read-profile, feed-chunk, open-call, respond, step, feed, feed-sound, numbers, inPeriod, inTimer, inReadItem, inWritten, inReadProfile, inCompleted, inAnswer, refusal}
-use Rattle.table.specs.Demands.{Demand1, ownSlot, freeSlot, stored, firstRow, rows, slot, made, due, Demand2, Run, endOf, Started, ending, fed, line, Demand3, Demands}
-use Rattle.table.proofs.Ours.{item-fits, setup-opens, ours}
+use Rattle.table.specs.Demands.{Demand1, ownSlot, freeSlot, stored, firstRow, rows, slot, made, Demand2, Run, endOf, Started, ending, fed, line, Demand3, Demands}
+use Rattle.table.proofs.Ours.{item-fits, setup-opens, on-remains, open-remains, ours}
 
 -- ---- demand 2: the rows in their order, then what `call` makes of the item
 
@@ -40,27 +41,23 @@ abbrev numbersOn : Bool → List ℕ
 numbersOn true = 1 ∷ 2 ∷ 4 ∷ 5 ∷ 6 ∷ 7 ∷ 8 ∷ 9 ∷ 10 ∷ 11 ∷ 12 ∷ 13 ∷ 14 ∷ []
 numbersOn false = 1 ∷ 2 ∷ 3 ∷ []
 
-module _ (t : List Entry) (x : Fed) where
+module _ (t : List Slot) (x : Input) where
+  -- what is due, with the answer itself in the place of its values
+  abbrev answered : Answer × List Slot
+  answered = unless Refused (firstRow (rows t x)) t (made t x .answer, stored t (itemIn x .call) (slot t x) (made t x .answer) (made t x .next))
+
   abbrev Right : Type 0
-  Right = (feedStep t x ≡ due t x) × (isOneOf (numbersOn (isSoundTable t)) (due t x .0) ≡ true)
+  Right = (feedStep t x ≡ answered) × (isOneOf (numbersOn (isSoundTable t)) (answered .0) ≡ true)
 
   right : Right
-  unfolding tableStep earlyOf unless damage serve setupAt otherAt place store all contains
+  unfolding tableStep earlyOf unless damage serve setupAt otherAt seat store all contains
   right =
       go (isItem (itemIn x) (x .item)) (isSetup (itemIn x)) (isProfile (profileOf (x .profile)) (x .profile)) (isSoundTable t) (ownSlot t x) (freeSlot t x) refl refl refl refl refl refl
     where
       -- what `call` makes of an item of an open call, and of a Setup that opens one, is stored
-      met : (k i : ℕ) (a : Answer) (next : Record) → store ourCall ourSlots t k i (effectAs a next) ≡ (a, stored t k i a next)
-      met k i (Refused n) next = refl
-      met k i (Accepted o) next = by (o .over)
-        where
-          by : (b : Bool) → store ourCall ourSlots t k i (cond b (ends (Accepted o)) (goes (Accepted o) next)) ≡ (Accepted o, set t i (cond b blankEntry (ownedBy k next)))
-          by true = refl
-          by false = refl
-
-      opened : (k i : ℕ) (a : Answer) (next : Record) → isAccepted a ≡ true → isOver a ≡ false → set t i (ownedBy k next) ≡ stored t k i a next
-      opened k i (Accepted o) next h e = rw e
-      opened k i (Refused n) next h e = absurd (false≢true h)
+      responded : (k i : ℕ) (a : Answer) (next : Record) → store ourCall ourSlots t k i (effectAs a next) ≡ (a, stored t k i a next)
+      responded k i a next =
+          on-remains (store ourCall ourSlots t k i) a (refuses a) (ends a) (goes a next) ∙ sym (on-remains (λ u. (a, u)) a t (set t i blankSlot) (set t i (ownedBy k next)))
 
       go : (i s p w : Bool) (o f : Option ℕ) → isItem (itemIn x) (x .item) ≡ i → isSetup (itemIn x) ≡ s → isProfile (profileOf (x .profile)) (x .profile) ≡ p → isSoundTable t ≡ w
           → ownSlot t x ≡ o → freeSlot t x ≡ f → Right
@@ -72,25 +69,37 @@ module _ (t : List Entry) (x : Fed) where
       go true false p false o f a b c d e g = rw (a, b, d) (refl, refl)
       go true false p true none f a b c d e g = rw (a, b, d, e) (refl, refl)
       go true false p true (some i) f a b c d e g =
-          let r = getD t i blankEntry .body in
+          let r = getD t i blankSlot .body in
           let s = respondOf r (itemIn x) (restIn x) in
-          rw (a, b, d, e) (met (itemIn x .call) i (s .answer) (s .next), one-of-more respondNumbers (numbersOn true) (s .answer) refl (respond-numbers r (itemIn x) (restIn x)))
+          rw (a, b, d, e) (responded (itemIn x .call) i (s .answer) (s .next), one-of-more respondNumbers (numbersOn true) (s .answer) refl (respond-numbers r (itemIn x) (restIn x)))
       go true true true true (some i) f a b c d e g = rw (a, b, c, d, e) (refl, refl)
       go true true true true none none a b c d e g = rw (a, b, c, d, e, g) (refl, refl)
       go true true true true none (some j) a b c d e g =
           let s = openOf (itemIn x) (restIn x) (x .profile) in
           let q = setup-opens (itemIn x) (restIn x) (x .profile) (item-fits (itemIn x) (x .item) a) b c in
-          rw (a, b, c, d, e, g) (ap (λ u. (s .answer, u)) (opened (itemIn x .call) j (s .answer) (s .next) (q .0) (q .1)), accepted-one (numbersOn true) (s .answer) (q .0))
+          rw (a, b, c, d, e, g) (ap (λ u. (s .answer, u)) (sym (open-remains (s .answer) t (set t j blankSlot) (set t j (ownedBy (itemIn x .call) (s .next))) q)), accepted-one (numbersOn true) (s .answer) (q .0))
 
-abbrev given : Turn → Fed
+abbrev given : Turn → Input
 given f = record { item = f .item; profile = f .profile }
 
+its-answer : (f : Turn) → Feeds f → (f .answer, f .after) ≡ answered (f .before) (given f)
+its-answer f e = e ∙ right (f .before) (given f) .0
+
+-- the values of what is given unless a row applies
+unless-values : (o : Option ℕ) (t u : List Slot) (a : Answer) → (valuesOf (unless Refused o t (a, u) .0), unless Refused o t (a, u) .1) ≡ unless refusalOf o t (valuesOf a, u)
+unfolding unless
+unless-values (some n) t u a = refl
+unless-values none t u a = refl
+
 demand2 : (f : Turn) → Feeds f → Demand2 f
-demand2 f e = e ∙ right (f .before) (given f) .0
+demand2 f e =
+    let t = f .before in
+    let x = given f in
+    ap (λ (d : Answer × List Slot). (valuesOf (d .0), d .1)) (its-answer f e) ∙ unless-values (firstRow (rows t x)) t (stored t (itemIn x .call) (slot t x) (made t x .answer) (made t x .next)) (made t x .answer)
 
 -- ---- demand 1: a refusal of a row leaves the table, and so does one of `call`
 
-kept : (o : Option ℕ) (t : List Entry) (k i : ℕ) (a : Answer) (next : Record) (n : ℕ) → unless Refused o t (a, stored t k i a next) .0 ≡ Refused n → unless Refused o t (a, stored t k i a next) .1 ≡ t
+kept : (o : Option ℕ) (t : List Slot) (k i : ℕ) (a : Answer) (next : Record) (n : ℕ) → unless Refused o t (a, stored t k i a next) .0 ≡ Refused n → unless Refused o t (a, stored t k i a next) .1 ≡ t
 unfolding unless
 kept (some m) t k i a next n e = refl
 kept none t k i (Refused m) next n e = refl
@@ -100,9 +109,9 @@ unchanged : (f : Turn) → Feeds f → (n : ℕ) → f .answer ≡ Refused n →
 unchanged f e n h =
     let t = f .before in
     let x = given f in
-    let q = demand2 f e in
-    let answer : f .answer ≡ due t x .0 = ap (λ (d : Answer × List Entry). d .0) q in
-    ap (λ (d : Answer × List Entry). d .1) q ∙ kept (firstRow (rows t x)) t (itemIn x .call) (slot t x) (made t x .answer) (made t x .next) n (sym answer ∙ h)
+    let q = its-answer f e in
+    let answer : f .answer ≡ answered t x .0 = ap (λ (d : Answer × List Slot). d .0) q in
+    ap (λ (d : Answer × List Slot). d .1) q ∙ kept (firstRow (rows t x)) t (itemIn x .call) (slot t x) (made t x .answer) (made t x .next) n (sym answer ∙ h)
 
 -- the refusal, if there is one, is one of ns
 abbrev isAmong : List ℕ → Option ℕ → Bool
@@ -117,10 +126,10 @@ answer-among ns (Accepted o) h = refl
 answer-among ns (Refused n) h = h
 
 -- what is fed to a table, sound or not
-fed-among : (w : Bool) (t : List Entry) (x : Fed) (ns : List ℕ) → isSoundTable t ≡ w → all (λ n. contains n ns) (numbersOn w) ≡ true → Among ns (inAnswer (feedStep t x .0))
+fed-among : (w : Bool) (t : List Slot) (x : Input) (ns : List ℕ) → isSoundTable t ≡ w → all (λ n. contains n ns) (numbersOn w) ≡ true → Among ns (inAnswer (feedStep t x .0))
 fed-among w t x ns e h =
     answer-among ns (feedStep t x .0)
-    (one-of-more (numbersOn w) ns (feedStep t x .0) h (rw (ap (λ (d : Answer × List Entry). d .0) (right t x .0), ← e) (right t x .1)))
+    (one-of-more (numbersOn w) ns (feedStep t x .0) h (rw (ap (λ (d : Answer × List Slot). d .0) (right t x .0), ← e) (right t x .1)))
 
 -- an item that a chunk completes is read; else a stop is 1 and a closed feeder 15
 chunk-among : (k : Taken) (f : Feeder) (c : List ℕ) → Among (1 ∷ 15 ∷ []) (inCompleted (fedAs k f c .completed))
@@ -159,26 +168,26 @@ demand1 = record { numbered = λ e n. among (numbers e) (refusal e) (each-among 
 -- ---- demand 3
 
 -- of what is handed in beside an item only a Setup's profile counts
-own-profile : (t : List Entry) (f : Turn) → feedStep t (given f) ≡ feedStep t (fed f)
+own-profile : (t : List Slot) (f : Turn) → feedStep t (given f) ≡ feedStep t (fed f)
 own-profile t f = right t (given f) .0 ∙ go (isSetup (itemIn (given f))) refl ∙ sym (right t (fed f) .0)
   where
-    go : (b : Bool) → isSetup (itemIn (given f)) ≡ b → due t (given f) ≡ due t (fed f)
+    go : (b : Bool) → isSetup (itemIn (given f)) ≡ b → answered t (given f) ≡ answered t (fed f)
     go true e = rw e
     go false e = rw e
 
-turned : (t : List Entry) (f : Turn) → f .before ≡ t → Feeds f → (f .answer, f .after) ≡ feedStep t (fed f)
+turned : (t : List Slot) (f : Turn) → f .before ≡ t → Feeds f → (f .answer, f .after) ≡ feedStep t (fed f)
 turned t f b e = e ∙ own-profile (f .before) f ∙ ap (λ u. feedStep u (fed f)) b
 
 -- a run's lines, and the table that it leaves, are those of the definition
-ran-lines : (t : List Entry) (l : List Turn) → Run t l → map line l ≡ log feedStep t (map fed l)
+ran-lines : (t : List Slot) (l : List Turn) → Run t l → map line l ≡ log feedStep t (map fed l)
 unfolding log
 ran-lines t [] r = refl
-ran-lines t (f ∷ l) (b, e, r) = ap (λ m. line f ∷ m) (ran-lines (f .after) l r) ∙ ap (λ (d : Answer × List Entry). (fed f, d .0) ∷ log feedStep (d .1) (map fed l)) (turned t f b e)
+ran-lines t (f ∷ l) (b, e, r) = ap (λ m. line f ∷ m) (ran-lines (f .after) l r) ∙ ap (λ (d : Answer × List Slot). (fed f, d .0) ∷ log feedStep (d .1) (map fed l)) (turned t f b e)
 
-ran-end : (t : List Entry) (l : List Turn) → Run t l → endOf t l ≡ final feedStep t (map fed l)
+ran-end : (t : List Slot) (l : List Turn) → Run t l → endOf t l ≡ final feedStep t (map fed l)
 unfolding final
 ran-end t [] r = refl
-ran-end t (f ∷ l) (b, e, r) = ran-end (f .after) l r ∙ ap (λ (d : Answer × List Entry). final feedStep (d .1) (map fed l)) (turned t f b e)
+ran-end t (f ∷ l) (b, e, r) = ran-end (f .after) l r ∙ ap (λ (d : Answer × List Slot). final feedStep (d .1) (map fed l)) (turned t f b e)
 
 module _ (l : List Turn) (r : Started l) where
   its-lines : map line l ≡ log feedStep (fresh ourSlots) (map fed l)
@@ -204,4 +213,4 @@ demand3 =
 -- ---- the three
 
 pub demands : Demands
-demands = record { anything = demand1; right = demand2; written = record { reads-back = written-read; one-form = one-run }; apart = demand3 }
+demands = record { anything = demand1; right = demand2; told = same-answer; written = record { reads-back = written-read; one-form = one-run }; apart = demand3 }

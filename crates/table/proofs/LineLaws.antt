@@ -11,6 +11,7 @@ use lib.Dec.{leb, ltb}
 use lib.ListN.{length, set, length-append}
 use lib.Seq.{sets, set-comm}
 use Rattle.forms.proofs.ByteLaws.{below-or-past, sets-then}
+use Rattle.table.specs.declared.line.Printed.the-variants.{NoRoom, Next}
 use Rattle.table.specs.Line.{digit, digits, decimal, Stored, printed, longest}
 
 -- ---- decimal digits
@@ -90,10 +91,10 @@ pub room-left : (i n : ℕ) → i ≤ n → leb longest (n - i) ≡ leb (i + lon
 room-left i n h =
     ⊎-elim (λ s. rw (lt-leb longest (n - i) (omega arith), lt-leb (i + longest) n s)) (λ m. rw (le-leb longest (n - i) (omega arith), le-leb (i + longest) n m)) (below-or-past n (i + longest))
 
-pub with-room : {n : ℕ} {t d : List ℕ} {i : ℕ} {e : List ℕ} {k : ℕ} → leb (i + longest) (length d) ≡ true → Stored n t d i e k → (k, e) ≡ printed t d i
+pub with-room : {n : ℕ} {t d : List ℕ} {i : ℕ} {e : List ℕ} {k : ℕ} → leb (i + longest) (length d) ≡ true → Stored n t d i e k → (Next k, e) ≡ printed t d i
 unfolding printed
 with-room h s = rw (h, s .place, s .bytes)
 
-pub no-room : (t d : List ℕ) (i : ℕ) → leb (i + longest) (length d) ≡ false → (i, d) ≡ printed t d i
+pub no-room : (t d : List ℕ) (i : ℕ) → leb (i + longest) (length d) ≡ false → (NoRoom, d) ≡ printed t d i
 unfolding printed
 no-room t d i h = rw h

@@ -1,4 +1,4 @@
--- The layer `call` and the entries of the table keep their promises, so demand 3 holds of them; and a sound table stays so.
+-- The layer `call` and the slots of the table keep their promises, so demand 3 holds of them; and a sound table stays so.
 use Prim.Native.Nat.{ℕ}
 use mathlib.Core.Path.{_≡_, refl, sym, ap, _∙_}
 use mathlib.Core.Logic.{_≢_}
@@ -16,22 +16,25 @@ use Rattle.forms.specs.declared.item.Body.the-variants as body
 use Rattle.forms.specs.declared.units.Tenths.{Tenths}
 use Rattle.forms.proofs.ByteLaws.{and-left, and-right}
 use Rattle.call.specs.declared.answers.Answer.the-variants.{Accepted, Refused}
-use Rattle.call.specs.declared.record.Stage.the-variants.{Analysing}
-use Rattle.call.specs.Range.{recordInRange}
+use Rattle.call.specs.declared.stages.Stage.the-variants.{Analysing}
+use Rattle.call.specs.Points.{originating}
+use Rattle.call.specs.Record.{setOf}
+use Rattle.call.specs.Answers.{isAccepted, remains}
 use Rattle.call.specs.Trigger.{triggers}
+use Rattle.call.specs.Kind.{isSetup, kindOf}
+use Rattle.call.specs.Range.{recordInRange}
+use Rattle.call.specs.Step.{respondOf}
 use Rattle.call.specs.Setup.{begun, openAs, openOf}
-use Rattle.call.specs.Step.{isSetup, kindOf, respondOf}
+use Rattle.call.specs.Alone.{Input, aloneStep}
 use Rattle.call.specs.Alone as alone
-use Rattle.call.specs.Alone.{Fed, aloneStep}
 use Rattle.call.proofs.Blank.{blank-passes}
 use Rattle.call.proofs.InRange.{isLeftWell, respond-left, open-left}
-use Rattle.call.specs.Answers.{isAccepted}
 use Rattle.call.proofs.CallTheorems.{isOver}
 use Rattle.call.proofs.Numbers.{isOneOf, accepted-one, one-of-more, respondNumbers, respond-numbers}
-use Rattle.table.specs.Types.{Item, Record, Answer, Stepped, Entry}
-use Rattle.table.specs.Table.{goes, ends, unless, fresh, Done}
-use Rattle.table.specs.Entry.{blankEntry, ourSlots}
-use Rattle.table.specs.Feed.{itemIn, restIn, earlyOf, effectAs, effectOf, ourCall, isSoundTable, feedOf, turn, Feeds}
+use Rattle.table.specs.Types.{Item, Record, Answer, Stepped, Slot}
+use Rattle.table.specs.Table.{refuses, goes, ends, unless, fresh, Done}
+use Rattle.table.specs.Slot.{blankSlot, ourSlots}
+use Rattle.table.specs.Feed.{itemIn, restIn, earlyOf, effectAs, ourCall, isSoundTable, feedOf, turn, Feeds}
 use Rattle.table.specs.Independence.{Independence}
 use Rattle.table.proofs.Promises.{Kept, keep, setupAlone, otherAlone, serveAlone, aloneAs, onNext, Promises}
 use Rattle.table.proofs.Independence.{independence, stays-sound, fresh-is-sound}
@@ -48,7 +51,7 @@ passed true true false e = (refl, λ h. cc)
 passed true false false e = (refl, λ h. cc)
 passed false s p e = (cc, λ h. cc)
 
-module _ (x : Fed) (e : earlyOf x ≡ none) where
+module _ (x : Input) (e : earlyOf x ≡ none) where
   checks : (isItem (itemIn x) (x .item) ≡ true) × (isSetup (itemIn x) ≡ true → isProfile (profileOf (x .profile)) (x .profile) ≡ true)
   unfolding earlyOf
   checks = passed (isItem (itemIn x) (x .item)) (isSetup (itemIn x)) (isProfile (profileOf (x .profile)) (x .profile)) e
@@ -61,7 +64,7 @@ module _ (x : Fed) (e : earlyOf x ≡ none) where
 abbrev pub Opens : Stepped → Type 0
 Opens s = (isAccepted (s .answer) ≡ true) × (isOver (s .answer) ≡ false)
 
-begun-opens : (b : Bool) (timer : _) (handling : _) (number : _) (t : Tenths) → Opens (begun b timer handling number t)
+begun-opens : (b : Bool) (timer : _) (handling : _) (number : _) (t : Tenths) → Opens (begun originating b timer handling number t)
 begun-opens true timer handling number t = (refl, refl)
 begun-opens false timer handling number t = (refl, refl)
 
@@ -95,34 +98,41 @@ module _ (i : Item) (rest s : List ℕ) (o : itemInRange i rest ≡ true) (h : i
   unfolding openOf
   setup-refused p = rw o (on-setup (λ b. openAs (kindOf b Analysing) s (i .time) rest .answer ≡ Refused 2) (λ n v w c. rw p) (i .body) h)
 
+-- ---- what remains after an answer
+
+-- a function of it, case by case
+pub on-remains : {A B : Type 0} (f : A → B) (a : Answer) (before over next : A) → f (remains a before over next) ≡ remains a (f before) (f over) (f next)
+on-remains f (Refused n) before over next = refl
+on-remains f (Accepted o) before over next = go (o .over)
+  where
+    go : (b : Bool) → f (cond b over next) ≡ cond b (f over) (f next)
+    go true = refl
+    go false = refl
+
+-- of a call that was opened: what is next
+pub open-remains : {A : Type 0} (a : Answer) (before over next : A) → (isAccepted a ≡ true) × (isOver a ≡ false) → remains a before over next ≡ next
+open-remains (Accepted o) before over next q = rw (q .1)
+open-remains (Refused n) before over next q = absurd (false≢true (q .0))
+
 -- ---- in range in, in range out
 
-left-in-range : (s : Stepped) (t : Tenths) → isLeftWell t s ≡ true → onNext recordInRange (effectOf s) ≡ true
-left-in-range s t h = go (s .answer) h
+left-in-range : (s : Stepped) (t : Tenths) → isLeftWell (setOf (s .next)) t s ≡ true → onNext recordInRange (effectAs (s .answer) (s .next)) ≡ true
+left-in-range s t h =
+    on-remains (onNext recordInRange) (s .answer) (refuses (s .answer)) (ends (s .answer)) (goes (s .answer) (s .next)) ∙ go (s .answer) (recordInRange (s .next)) _ h
   where
-    on : (b : Bool) (a : Answer) (d : Bool) → (b || (recordInRange (s .next) && d)) ≡ true → onNext recordInRange (cond b (ends a) (goes a (s .next))) ≡ true
-    on true a d h = refl
-    on false a d h = and-left (recordInRange (s .next)) d h
-
-    go : (a : Answer) → isLeftWell t (record { answer = a; next = s .next }) ≡ true → onNext recordInRange (effectAs a (s .next)) ≡ true
-    go (Refused n) h = refl
-    go (Accepted o) h = on (o .over) (Accepted o) _ h
-
--- an opened call's effect is that it goes on
-pub opened-goes : (a : Answer) (next : Record) → (isAccepted a ≡ true) × (isOver a ≡ false) → (effectAs a next ≡ goes a next) × (alone.remaining none a next ≡ some next)
-opened-goes (Accepted o) next q = (rw (q .1), rw (q .1))
-opened-goes (Refused n) next q = absurd (false≢true (q .0))
+    go : (a : Answer) (b c : Bool) → remains a true true (b && c) ≡ true → remains a true true b ≡ true
+    go (Refused n) b c h = refl
+    go (Accepted o) b c h = by (o .over) h
+      where
+        by : (over : Bool) → cond over true (b && c) ≡ true → cond over true b ≡ true
+        by true h = refl
+        by false h = and-left b c h
 
 -- ---- the call by itself is made of the same parts
 
-kept-so : (r : Record) (a : Answer) (next : Record) → (a, alone.remaining (some r) a next) ≡ keep ourCall r (effectAs a next)
+kept-so : (r : Record) (a : Answer) (next : Record) → (a, remains a (some r) none (some next)) ≡ keep ourCall r (effectAs a next)
 unfolding keep
-kept-so r (Refused n) next = refl
-kept-so r (Accepted o) next = go (o .over) (Accepted o)
-  where
-    go : (b : Bool) (a : Answer) → (a, cond b none (some next)) ≡ keep ourCall r (cond b (ends a) (goes a next))
-    go true a = refl
-    go false a = refl
+kept-so r a next = on-remains (λ k. (a, k)) a (some r) none (some next) ∙ sym (on-remains (keep ourCall r) a (refuses a) (ends a) (goes a next))
 
 -- a call by itself answers as the parts do, and its refusals are numbered 1 to 14 but 3
 -- the numbers that a call by itself gives: neither 3 nor 6, which are the table's
@@ -135,7 +145,7 @@ never n a h k e = false≢true (sym h ∙ sym (ap (isOneOf aloneNumbers) e) ∙ 
 abbrev As : Kept ourCall → Kept ourCall → Type 0
 As d o = (d ≡ o) × (isOneOf aloneNumbers (d .0) ≡ true)
 
-module _ (x : Fed) where
+module _ (x : Input) where
   abbrev profileIs : Bool → Type 0
   profileIs b = isProfile (profileOf (x .profile)) (x .profile) ≡ b
 
@@ -152,12 +162,12 @@ module _ (x : Fed) where
     unfolding setupAlone contains
     as-setup none p =
         let q = setup-opens (itemIn x) (restIn x) (x .profile) o h p in
-        (ap (λ k. (opens .answer, k)) (opened-goes (opens .answer) (opens .next) q .1), accepted-one aloneNumbers (opens .answer) (q .0))
+        (ap (λ k. (opens .answer, k)) (open-remains (opens .answer) none none (some (opens .next)) q), accepted-one aloneNumbers (opens .answer) (q .0))
     as-setup (some r) p = rw p (refl, refl)
 
     as-refused : (v : Option Record) → profileIs false → As (alone.setupAlone v (itemIn x) (restIn x) (x .profile)) (Refused 2, v)
     unfolding contains
-    as-refused none p = let e = setup-refused (itemIn x) (restIn x) (x .profile) o h p in (ap (λ a. (a, alone.remaining none a (opens .next))) e, ap (isOneOf aloneNumbers) e)
+    as-refused none p = let e = setup-refused (itemIn x) (restIn x) (x .profile) o h p in (ap (λ a. (a, remains {A = Option Record} a none none (some (opens .next)))) e, ap (isOneOf aloneNumbers) e)
     as-refused (some r) p = rw p (refl, refl)
 
   alone-as : (v : Option Record) → As (aloneStep v (x .item) (x .profile)) (aloneAs ourCall v x)
@@ -172,14 +182,14 @@ module _ (x : Fed) where
 
 -- ---- the promises, and what comes of them
 
-begin-in-range : (x : Fed) → earlyOf x ≡ none → isSetup (itemIn x) ≡ true → recordInRange (openOf (itemIn x) (restIn x) (x .profile) .next) ≡ true
+begin-in-range : (x : Input) → earlyOf x ≡ none → isSetup (itemIn x) ≡ true → recordInRange (openOf (itemIn x) (restIn x) (x .profile) .next) ≡ true
 begin-in-range x e h =
     let s = openOf (itemIn x) (restIn x) (x .profile) in
     let q = setup-opens (itemIn x) (restIn x) (x .profile) (item-in-range x e) h (checks x e .1 h) in
-    rw (opened-goes (s .answer) (s .next) q .0) at (left-in-range s (itemIn x .time) (open-left (itemIn x) (restIn x) (x .profile)))
+    rw (open-remains (s .answer) (refuses (s .answer)) (ends (s .answer)) (goes (s .answer) (s .next)) q) at (left-in-range s (itemIn x .time) (open-left (itemIn x) (restIn x) (x .profile)))
 
 promises : Promises ourCall ourSlots
-unfolding blankEntry contains
+unfolding blankSlot contains
 promises =
     record {
       owner-own = λ k r. refl;
@@ -187,7 +197,7 @@ promises =
       owner-blank = refl;
       blank-blank = blank-passes;
       begin-range = begin-in-range;
-      meet-range = λ r x e h o. left-in-range (respondOf r (itemIn x) (restIn x)) (itemIn x .time) (respond-left r (itemIn x) (restIn x) o (item-in-range x e));
+      respond-range = λ r x e h o. left-in-range (respondOf r (itemIn x) (restIn x)) (itemIn x .time) (respond-left r (itemIn x) (restIn x) o (item-in-range x e));
       alone-is = λ v x. alone-as x v .0;
       alone-never-3 = λ v x. never 3 _ refl (alone-as x v .1);
       room-is-not-3 = λ e. absurd (let z : _≡_ {A = ℕ} 6 3 = cc in omega arith);
@@ -198,18 +208,18 @@ pub ours : Independence ourCall ourSlots
 ours = independence ourCall ourSlots promises
 
 -- a sound table stays so, whatever is fed
-pub stays : (t : List Entry) (item profile : List ℕ) → isSoundTable t ≡ true → isSoundTable (feedOf t item profile .1) ≡ true
+pub stays : (t : List Slot) (item profile : List ℕ) → isSoundTable t ≡ true → isSoundTable (feedOf t item profile .1) ≡ true
 stays t item profile e = stays-sound ourCall ourSlots promises t (record { item = item; profile = profile }) e
 
 -- so the table that whatever keeps to `feed`'s contract leaves
-pub fed-stays : (t u : List Entry) (item profile : List ℕ) (a : Answer) → isSoundTable t ≡ true → Feeds (turn t item profile a u) → Feeds (turn t item profile a u) × (isSoundTable u ≡ true)
+pub fed-stays : (t u : List Slot) (item profile : List ℕ) (a : Answer) → isSoundTable t ≡ true → Feeds (turn t item profile a u) → Feeds (turn t item profile a u) × (isSoundTable u ≡ true)
 fed-stays t u item profile a e f = (f, ap (λ (d : Done ourCall ourSlots). isSoundTable (d .1)) f ∙ stays t item profile e)
 
 -- a fresh table is sound
-pub fresh-sound : isSoundTable (replicate 64 blankEntry) ≡ true
+pub fresh-sound : isSoundTable (replicate 64 blankSlot) ≡ true
 unfolding fresh
 fresh-sound = fresh-is-sound ourCall ourSlots promises
 
-pub made-fresh : (t : List Entry) → t ≡ replicate 64 blankEntry → (t ≡ fresh ourSlots) × (isSoundTable t ≡ true)
+pub made-fresh : (t : List Slot) → t ≡ replicate 64 blankSlot → (t ≡ fresh ourSlots) × (isSoundTable t ≡ true)
 unfolding fresh
 made-fresh t e = (e, rw e fresh-sound)

@@ -9,13 +9,13 @@ use Rattle.table.specs.Table.{Effect, refuses, goes, ends, OneCall, Slot
 -- ---- a call by itself, put together from the same parts as the table
 
 module _ (c : OneCall) where
-  open OneCall c using (Item, Rec, Answer, refused, early, isSetup, begin, meet)
+  open OneCall c using (Item, Rec, Answer, refused, early, isSetup, begin, respond)
 
   abbrev pub Kept : Type 0
   Kept = Answer × Option Rec
 
   unfoldable pub keep : Rec → Effect Answer Rec → Kept
-  keep r (refuses n) = (refused n, some r)
+  keep r (refuses a) = (a, some r)
   keep r (goes a next) = (a, some next)
   keep r (ends a) = (a, none)
 
@@ -25,7 +25,7 @@ module _ (c : OneCall) where
 
   unfoldable pub otherAlone : Item → Option Rec → Kept
   otherAlone x none = (refused 4, none)
-  otherAlone x (some r) = keep r (meet r x)
+  otherAlone x (some r) = keep r (respond r x)
 
   unfoldable pub serveAlone : Item → Option Rec → Kept
   serveAlone x v = cond (isSetup x) (setupAlone x v) (otherAlone x v)
@@ -37,7 +37,7 @@ module _ (c : OneCall) where
 
 -- the next record, if there is one, passes the test
 abbrev pub onNext : {Answer Rec : Type 0} → (Rec → Bool) → Effect Answer Rec → Bool
-onNext p (refuses n) = true
+onNext p (refuses a) = true
 onNext p (goes a r) = p r
 onNext p (ends a) = true
 
@@ -49,7 +49,7 @@ pub record Promises (c : OneCall) (m : Slots (c .Rec)) : Type 0 where
   pub blank-blank : m .isBlank (m .blank) ≡ true
   -- in range in, in range out
   pub begin-range : (x : c .Item) → c .early x ≡ none → c .isSetup x ≡ true → m .inRange (c .begin x .1) ≡ true
-  pub meet-range : (r : c .Rec) (x : c .Item) → c .early x ≡ none → c .isSetup x ≡ false → m .inRange r ≡ true → onNext (m .inRange) (c .meet r x) ≡ true
+  pub respond-range : (r : c .Rec) (x : c .Item) → c .early x ≡ none → c .isSetup x ≡ false → m .inRange r ≡ true → onNext (m .inRange) (c .respond r x) ≡ true
   -- the call by itself is made of these parts; it never answers 3, and 6 is another answer
   pub alone-is : (v : Option (c .Rec)) (x : c .Item) → c .alone v x ≡ aloneAs c v x
   pub alone-never-3 : (v : Option (c .Rec)) (x : c .Item) → c .alone v x .0 ≢ c .refused 3

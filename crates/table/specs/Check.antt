@@ -1,18 +1,18 @@
--- 'One call twice' over the calls that own entries, which are collected once: `Table.once`, as the code finds it out.
+-- 'One call twice' over the calls that own slots, which are collected once: `Table.once`, as the code finds it out.
 use Prim.Native.Nat.{ℕ}
 use mathlib.Core.Bool.{Bool, true, false, cond, _||_}
 use mathlib.Core.List.{List, [], _∷_}
 use mathlib.Core.Option.{Option, none, some}
 use lib.Dec.{eqb}
-use Rattle.table.specs.Types.{Entry}
-use Rattle.table.specs.Entry.{ownerOf}
+use Rattle.table.specs.Types.{Slot}
+use Rattle.table.specs.Slot.{ownerOf}
 
--- the calls that own entries, in the entries' order
+-- the calls that own slots, in the slots' order
 abbrev pub consCall : Option ℕ → List ℕ → List ℕ
 consCall none l = l
 consCall (some k) l = k ∷ l
 
-unfoldable pub calls : List Entry → List ℕ
+unfoldable pub calls : List Slot → List ℕ
 calls [] = []
 calls (e ∷ t) = consCall (ownerOf (e .owner)) (calls t)
 

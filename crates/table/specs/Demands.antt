@@ -1,5 +1,5 @@
 -- Start here. The three demands, each said of whatever keeps to `feed`'s contract (`Feeds`, in Feed.antt); `demands` in proofs/Demands.antt proves them.
--- The words between quotes are the demands' own and document 01's. What they rest on: `forms` (the written forms), `call` (one call), and here Table, Entry, Feed, EntryPoints, and of lists Runs and Independence.
+-- The words between quotes are the demands' own and document 01's. What they rest on: `forms` (the written forms), `call` (one call), and here Table, Slot, Feed, EntryPoints, and of lists Runs and Independence.
 use Prim.Native.Nat.{ℕ, _^_, _<_}
 use mathlib.Core.Bool.{true, not, cond, _&&_}
 use mathlib.Core.List.{List, [], _∷_, map}
@@ -14,16 +14,17 @@ use Rattle.forms.specs.Write.{written, after}
 use Rattle.forms.specs.declared.units.Tenths.{Tenths}
 use Rattle.forms.specs.declared.item.ReadItem.the-variants as read
 use Rattle.forms.specs.declared.write.Written.the-variants.{Length}
-use Rattle.call.specs.declared.answers.Answer.the-variants.{Accepted, Refused}
-use Rattle.call.specs.Answers.{Row, row}
+use Rattle.call.specs.declared.answers.Answer.the-variants.{Refused}
+use Rattle.call.specs.Answers.{Values, refusal as refusalOf, valuesOf, Row, row, remains}
+use Rattle.call.specs.Kind.{isSetup}
+use Rattle.call.specs.Step.{respondOf}
 use Rattle.call.specs.Setup.{openOf}
-use Rattle.call.specs.Step.{isSetup, respondOf}
-use Rattle.call.specs.Alone.{Fed, aloneStep}
+use Rattle.call.specs.Alone.{Input, aloneStep}
 use Rattle.call.specs.Order.{Request, Disjoint, BothAccepted, inTurn}
-use Rattle.table.specs.Types.{Item, Record, Answer, Stepped, Entry}
+use Rattle.table.specs.Types.{Item, Record, Answer, Stepped, Slot}
 use Rattle.table.specs.Runs.{All, final, eachAlone}
-use Rattle.table.specs.Table.{isNone, find, isFree, owns, look, fresh, unless, ofCall}
-use Rattle.table.specs.Entry.{ownedBy, blankEntry, ourSlots}
+use Rattle.table.specs.Table.{isNone, find, placeOr, isFree, owns, look, fresh, unless, ofCall}
+use Rattle.table.specs.Slot.{ownedBy, blankSlot, ourSlots}
 use Rattle.table.specs.Feed.{itemIn, restIn, ourCall, isSoundTable, Turn, Feeds}
 use Rattle.table.specs.EntryPoints.{EntryPoint, numbers, refusal}
 use Rattle.table.specs.Independence.{itemsOf, linesOf}
@@ -38,12 +39,7 @@ pub record Demand1 : Type 0 where
 
 -- ---- Demand 2, the right answer
 
--- the number of a slot, 0 for none
-abbrev pub placeIn : Option ℕ → ℕ
-placeIn none = 0
-placeIn (some i) = i
-
-module _ (t : List Entry) (x : Fed) where
+module _ (t : List Slot) (x : Input) where
   -- the slot of the item's call, if it is open, and the lowest free slot
   abbrev pub ownSlot : Option ℕ
   ownSlot = find (owns ourSlots (itemIn x .call)) t
@@ -67,28 +63,28 @@ module _ (t : List Entry) (x : Fed) where
 
   -- the slot that may change: "Setup takes the lowest free slot", another item its call's. (Where there is none, a row applies.)
   abbrev pub slot : ℕ
-  slot = cond (isSetup (itemIn x)) (placeIn freeSlot) (placeIn ownSlot)
+  slot = cond (isSetup (itemIn x)) (placeOr 0 freeSlot) (placeOr 0 ownSlot)
 
   -- what `call` makes of the item: of a Setup "Triggering's answer … and a record", else "the first of 7 to 14 that applies; else One call's answer and next record"
   abbrev pub made : Stepped
-  made = cond (isSetup (itemIn x)) (openOf (itemIn x) (restIn x) (x .profile)) (respondOf (getD t slot blankEntry .body) (itemIn x) (restIn x))
+  made = cond (isSetup (itemIn x)) (openOf (itemIn x) (restIn x) (x .profile)) (respondOf (getD t slot blankSlot .body) (itemIn x) (restIn x))
 
--- the table after what `call` made of an item of call k, whose slot is i: "or nothing when the call is over. A refusal leaves what is kept."
-abbrev pub stored : List Entry → ℕ → ℕ → Answer → Record → List Entry
-stored t k i (Refused n) next = t
-stored t k i (Accepted o) next = set t i (cond (o .over) blankEntry (ownedBy k next))
+-- the table after what `call` made of an item of call k, whose slot is i: as it was, or the slot free again, or the next record in it
+abbrev pub stored : List Slot → ℕ → ℕ → Answer → Record → List Slot
+stored t k i a next = remains a t (set t i blankSlot) (set t i (ownedBy k next))
 
 -- "Checked in this order; the first that applies is given and none otherwise."
 abbrev pub firstRow : List Row → Option ℕ
 firstRow [] = none
 firstRow (x ∷ xs) = cond (x .applies) (some (x .number)) (firstRow xs)
 
-abbrev pub due : List Entry → Fed → Answer × List Entry
-due t x = unless Refused (firstRow (rows t x)) t (made t x .answer, stored t (itemIn x .call) (slot t x) (made t x .answer) (made t x .next))
+-- the values of the answer, in the paper's numbers and words (`call`, Answers.antt), and the table
+abbrev pub due : List Slot → Input → Values × List Slot
+due t x = unless refusalOf (firstRow (rows t x)) t (valuesOf (made t x .answer), stored t (itemIn x .call) (slot t x) (made t x .answer) (made t x .next))
 
 -- "Each item gets the answer and next record that document 01 defines from the published CAMEL rules", and the whole table is the one it defines
 abbrev pub Demand2 : Turn → Type 0
-Demand2 f = (f .answer, f .after) ≡ due (f .before) (record { item = f .item; profile = f .profile })
+Demand2 f = (valuesOf (f .answer), f .after) ≡ due (f .before) (record { item = f .item; profile = f .profile })
 
 -- "A written item reads back the same, and each item has one written form." (The code's calls are below 256 ^ 4: they are u32.)
 pub record WrittenForms : Type 0 where
@@ -99,11 +95,11 @@ pub record WrittenForms : Type 0 where
 -- ---- Demand 3, calls do not touch each other
 
 -- "fed one after another …; each item meets the table as the one before left it, and nothing else writes it"
-abbrev pub Run : List Entry → List Turn → Type 0
+abbrev pub Run : List Slot → List Turn → Type 0
 Run t [] = Unit {0}
 Run t (f ∷ l) = (f .before ≡ t) × Feeds f × Run (f .after) l
 
-abbrev pub endOf : List Entry → List Turn → List Entry
+abbrev pub endOf : List Slot → List Turn → List Slot
 endOf t [] = t
 endOf t (f ∷ l) = endOf (f .after) l
 
@@ -111,14 +107,14 @@ endOf t (f ∷ l) = endOf (f .after) l
 abbrev pub Started : List Turn → Type 0
 Started l = Run (fresh ourSlots) l
 
-abbrev pub ending : List Turn → List Entry
+abbrev pub ending : List Turn → List Slot
 ending l = endOf (fresh ourSlots) l
 
 -- an item, "each Setup with its own profile" (what is handed in beside another item is no part of it), and with its answer
-abbrev pub fed : Turn → Fed
+abbrev pub fed : Turn → Input
 fed f = record { item = f .item; profile = cond (isSetup (itemOf (f .item))) (f .profile) [] }
 
-abbrev pub line : Turn → Fed × Answer
+abbrev pub line : Turn → Input × Answer
 line f = (fed f, f .answer)
 
 -- "none is refused for room", "refused for room means 6"
@@ -126,7 +122,7 @@ abbrev pub Seated : List Turn → Type 0
 Seated l = All (λ e. e .1 ≢ Refused 6) (map line l)
 
 -- "document 01's call by itself" (`call`, Alone.antt)
-abbrev pub byItself : Option Record → Fed → Answer × Option Record
+abbrev pub byItself : Option Record → Input → Answer × Option Record
 byItself kept x = aloneStep kept (x .item) (x .profile)
 
 -- "each item gets exactly the answer that document 01's call by itself gives, fed only that call's items in their order": "one statement about the whole list"
@@ -165,5 +161,7 @@ pub record Demand3 : Type 0 where
 pub record Demands : Type 0 where
   pub anything : Demand1
   pub right : (f : Turn) → Feeds f → Demand2 f
+  -- the values are the whole answer
+  pub told : (a b : Answer) → valuesOf a ≡ valuesOf b → a ≡ b
   pub written : WrittenForms
   pub apart : Demand3

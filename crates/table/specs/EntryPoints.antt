@@ -21,9 +21,9 @@ use Rattle.forms.specs.declared.feeder.Feeder.{Feeder}
 use Rattle.forms.specs.declared.feeder.Completed.{Completed}
 use Rattle.forms.specs.declared.feeder.Completed.the-variants as O
 use Rattle.call.specs.declared.answers.Answer.the-variants.{Accepted, Refused}
-use Rattle.call.specs.Setup.{openOf}
 use Rattle.call.specs.Step.{respondOf, stepOf}
-use Rattle.table.specs.Types.{Item, ReadItem, ReadProfile, Record, Answer, Entry}
+use Rattle.call.specs.Setup.{openOf}
+use Rattle.table.specs.Types.{Item, ReadItem, ReadProfile, Record, Answer, Slot}
 use Rattle.table.specs.Feed.{isSoundTable, feedOf}
 
 -- ---- an entry point, with what it is handed. (`feeder::take` says 15 by a variant of its own, `Closed`; `answers::refuse` gives the number that it is handed.)
@@ -42,8 +42,8 @@ pub data EntryPoint : Type 0 where
   respond : Record → Item → List ℕ → EntryPoint
   step : Record → Item → List ℕ → EntryPoint
   -- `table`: `feed`, and `feed_sound`, which asks for a sound table
-  feed : List Entry → List ℕ → List ℕ → EntryPoint
-  feed-sound : (t : List Entry) → isSoundTable t ≡ true → List ℕ → List ℕ → EntryPoint
+  feed : List Slot → List ℕ → List ℕ → EntryPoint
+  feed-sound : (t : List Slot) → isSoundTable t ≡ true → List ℕ → List ℕ → EntryPoint
 
 -- ---- the numbers that it can give
 

@@ -2,7 +2,7 @@ pub mod Demands
 pub mod Types
 pub mod Runs
 pub mod Table
-pub mod Entry
+pub mod Slot
 pub mod Feed
 pub mod EntryPoints
 pub mod Independence

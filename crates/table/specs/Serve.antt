@@ -1,4 +1,4 @@
--- What an item makes of the one entry that it may change: its answer and the record that remains, and the entry afterwards. (`Table.tableStep` says what becomes of the table.)
+-- What an item makes of the one slot that it may change: its answer and the record that remains, and the slot afterwards. (`Table.tableStep` says what becomes of the table.)
 use Prim.Native.Nat.{ℕ}
 use mathlib.Core.Bool.{Bool, true, false, cond, _&&_}
 use mathlib.Core.List.{List}
@@ -8,11 +8,12 @@ use Rattle.forms.specs.Profile.{readProfile}
 use Rattle.forms.specs.declared.item.ReadItem.the-variants as read
 use Rattle.forms.specs.declared.profile.ReadProfile.the-variants as profile
 use Rattle.call.specs.declared.answers.Answer.the-variants.{Accepted, Refused}
-use Rattle.call.specs.Answers.{refused}
+use Rattle.call.specs.Answers.{remains, refused}
+use Rattle.call.specs.Kind.{isSetup}
+use Rattle.call.specs.Step.{respondOf}
 use Rattle.call.specs.Setup.{openOf}
-use Rattle.call.specs.Step.{isSetup, respondOf}
-use Rattle.table.specs.Types.{Item, ReadItem, ReadProfile, Answer, Record, Stepped, Owner, Entry, Spot}
-use Rattle.table.specs.declared.entry.Owner.the-variants as owner
+use Rattle.table.specs.Types.{Item, ReadItem, ReadProfile, Answer, Record, Stepped, Owner, Slot, Spot}
+use Rattle.table.specs.declared.slot.Owner.the-variants as owner
 use Rattle.table.specs.declared.lookup.Spot.the-variants.{Nowhere, Free, Own}
 
 -- a Setup that can open no call: the refusal that comes before, else n
@@ -20,7 +21,7 @@ abbrev pub denied : Record → Answer → ℕ → Stepped
 denied r (Accepted o) n = refused r n
 denied r (Refused m) n = refused r m
 
--- a Setup for a free entry: what `call` made of it, or its refusal
+-- a Setup for a free slot: what `call` made of it, or its refusal
 abbrev pub openedAs : Record → Answer → Record → Stepped
 openedAs r (Accepted o) next = record { answer = Accepted o; next = next }
 openedAs r (Refused n) next = refused r n
@@ -32,13 +33,13 @@ setUp (Free j) r o = openedAs r (o .answer) (o .next)
 setUp (Own j) r o = denied r (o .answer) 5
 
 -- all but a Setup: "call not open" is 4
-abbrev pub met : Spot → Record → Item → List ℕ → Stepped
-met Nowhere r i rest = refused r 4
-met (Free j) r i rest = refused r 4
-met (Own j) r i rest = respondOf r i rest
+abbrev pub respondedAt : Spot → Record → Item → List ℕ → Stepped
+respondedAt Nowhere r i rest = refused r 4
+respondedAt (Free j) r i rest = refused r 4
+respondedAt (Own j) r i rest = respondOf r i rest
 
 abbrev pub actedOn : Spot → Record → Item → List ℕ → List ℕ → Stepped
-actedOn s r i rest profile = cond (isSetup i) (setUp s r (openOf i rest profile)) (met s r i rest)
+actedOn s r i rest profile = cond (isSetup i) (setUp s r (openOf i rest profile)) (respondedAt s r i rest)
 
 abbrev pub actedAs : ReadItem → Spot → Record → List ℕ → List ℕ → Stepped
 actedAs (read.Refused n) s r bytes profile = refused r n
@@ -47,13 +48,12 @@ actedAs (read.Item i at) s r bytes profile = actedOn s r i (drop at bytes) profi
 unfoldable pub actedOf : Spot → Record → List ℕ → List ℕ → Stepped
 actedOf s r bytes profile = actedAs (readItem bytes) s r bytes profile
 
--- call k's entry afterwards: "A refusal leaves what is kept", and the slot of a call that is over is free again
+-- call k's slot afterwards: that of a call that is over is free again
 abbrev pub ownerAfter : Owner → ℕ → Answer → Owner
-ownerAfter w k (Accepted o) = cond (o .over) owner.Free (owner.Call k)
-ownerAfter w k (Refused n) = w
+ownerAfter w k a = remains a w owner.Free (owner.Call k)
 
-abbrev pub entryAfter : Entry → ℕ → Stepped → Entry
-entryAfter e k s = record { owner = ownerAfter (e .owner) k (s .answer); body = s .next }
+abbrev pub slotAfter : Slot → ℕ → Stepped → Slot
+slotAfter slot k s = record { owner = ownerAfter (slot .owner) k (s .answer); body = s .next }
 
 -- on a damaged table 1 and 2 come before 3
 abbrev pub isRefused : ReadProfile → Bool

@@ -9,9 +9,9 @@ use Rattle.table.specs.Runs.{only}
 
 -- ---- what the layer of one call gives
 
--- what an open call's record makes of an item: a refusal, an answer and the next record, or the answer that ends the call
+-- what an open call's record makes of an item: an answer that refuses it, an answer and the next record, or the answer that ends the call
 pub data Effect (Answer Rec : Type 0) : Type 0 where
-  refuses : ℕ → Effect Answer Rec
+  refuses : Answer → Effect Answer Rec
   goes : Answer → Rec → Effect Answer Rec
   ends : Answer → Effect Answer Rec
 
@@ -25,7 +25,7 @@ pub record OneCall : Type 1 where
   pub early : Item → Option ℕ
   pub isSetup : Item → Bool
   pub begin : Item → Answer × Rec
-  pub meet : Rec → Item → Effect Answer Rec
+  pub respond : Rec → Item → Effect Answer Rec
   pub alone : Option Rec → Item → Answer × Option Rec
 
 -- does the item belong to call k?
@@ -61,6 +61,11 @@ next false (some i) = some (suc i)
 unfoldable pub find : {A : Type 0} → (A → Bool) → List A → Option ℕ
 find p [] = none
 find p (s ∷ t) = next (p s) (find p t)
+
+-- the place that was found, or else d
+abbrev pub placeOr : ℕ → Option ℕ → ℕ
+placeOr d none = d
+placeOr d (some i) = i
 
 -- all members pass a test
 unfoldable pub all : {A : Type 0} → (A → Bool) → List A → Bool
@@ -115,7 +120,7 @@ unless refused (some n) s d = (refused n, s)
 unless refused none s d = d
 
 module _ (c : OneCall) (m : Slots (c .Rec)) where
-  open OneCall c using (Item, Rec, Answer, refused, call, early, isSetup, begin, meet)
+  open OneCall c using (Item, Rec, Answer, refused, call, early, isSetup, begin, respond)
   open Slots m using (Slot, owner, body, own, blank)
 
   abbrev pub Done : Type 0
@@ -123,24 +128,24 @@ module _ (c : OneCall) (m : Slots (c .Rec)) where
 
   -- what call k's record made of an item, stored in its slot i; the slot of a call that is over is free again
   unfoldable pub store : List Slot → ℕ → ℕ → Effect Answer Rec → Done
-  store t k i (refuses n) = (refused n, t)
+  store t k i (refuses a) = (a, t)
   store t k i (goes a r) = (a, set t i (own k r))
   store t k i (ends a) = (a, set t i blank)
 
   -- "Setup takes the lowest free slot"; refusal 6: "64 open (Setup)"
-  unfoldable pub place : List Slot → Item → Option ℕ → Done
-  place t x none = (refused 6, t)
-  place t x (some i) = (begin x .0, set t i (own (call x) (begin x .1)))
+  unfoldable pub seat : List Slot → Item → Option ℕ → Done
+  seat t x none = (refused 6, t)
+  seat t x (some i) = (begin x .0, set t i (own (call x) (begin x .1)))
 
   -- refusal 5: "call already open (Setup)"
   unfoldable pub setupAt : List Slot → Item → Option ℕ → Done
-  setupAt t x none = place t x (find (isFree m) t)
+  setupAt t x none = seat t x (find (isFree m) t)
   setupAt t x (some i) = (refused 5, t)
 
   -- refusal 4: "call not open (all but Setup)"
   unfoldable pub otherAt : List Slot → Item → Option ℕ → Done
   otherAt t x none = (refused 4, t)
-  otherAt t x (some i) = store t (call x) i (meet (body (getD t i blank)) x)
+  otherAt t x (some i) = store t (call x) i (respond (body (getD t i blank)) x)
 
   -- given the slot of the item's call, if it has one
   unfoldable pub serve : List Slot → Item → Option ℕ → Done

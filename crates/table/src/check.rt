@@ -3,29 +3,28 @@ ghost use mathlib.Core.Path.{_≡_};
 ghost use Prim.Native.Nat.{_≤_};
 ghost use lib.ListN.{drop};
 ghost use Rattle.table.specs.Table.{isSoundSlot};
-ghost use Rattle.table.specs.Entry.{ourSlots, ownerOf};
+ghost use Rattle.table.specs.Slot.{ourSlots, ownerOf};
 ghost use Rattle.table.specs.Feed.{isSoundTable};
 ghost use Rattle.table.specs.Check.{callOf, countOf, among, isOnce};
-use crate::entry::Entry;
-use crate::entry::Owner;
+use crate::slot::*;
 use call::range;
 
-// The call that owns the entry, 0 where it is free.
-fn call_of(e: Entry) -> u32
-    ensures { λ n. ⌜ n ≡ callOf (ownerOf (e .owner)) ⌝ }
+// The call that owns the slot, 0 where it is free.
+fn call_of(slot: Slot) -> u32
+    ensures { λ n. ⌜ n ≡ callOf (ownerOf (slot .owner)) ⌝ }
 {
-    let o = e.owner;
+    let o = slot.owner;
     match o {
         Owner::Free => 0,
         Owner::Call(k) => k,
     }
 }
 
-// How many calls own the entry.
-fn count_of(e: Entry) -> usize
-    ensures { λ n. ⌜ (n ≡ countOf (ownerOf (e .owner))) × (n ≤ 1) ⌝ }
+// How many calls own the slot.
+fn count_of(slot: Slot) -> usize
+    ensures { λ n. ⌜ (n ≡ countOf (ownerOf (slot .owner))) × (n ≤ 1) ⌝ }
 {
-    let o = e.owner;
+    let o = slot.owner;
     match o {
         Owner::Free => 0,
         Owner::Call(_) => 1,
@@ -33,11 +32,11 @@ fn count_of(e: Entry) -> usize
 }
 
 // A free record is blank, an owned one in range.
-fn is_sound_entry(e: Entry) -> bool
-    ensures { λ b. ⌜ b ≡ isSoundSlot ourSlots e ⌝ }
+fn is_sound_slot(slot: Slot) -> bool
+    ensures { λ b. ⌜ b ≡ isSoundSlot ourSlots slot ⌝ }
 {
-    let o = e.owner;
-    let r = e.body;
+    let o = slot.owner;
+    let r = slot.body;
     match o {
         Owner::Free => range::is_blank(r),
         Owner::Call(_) => range::record_in_range(r),
@@ -72,8 +71,8 @@ fn is_once(l: &[u32]) -> bool
     true
 }
 
-// 64 records, each sound, and no call twice: one pass, which collects the calls, n so far. What a free entry stores is overwritten.
-pub fn is_sound(table: &[Entry]) -> bool
+// 64 records, each sound, and no call twice: one pass, which collects the calls, n so far. What a free slot stores is overwritten.
+pub fn is_sound(table: &[Slot]) -> bool
     ensures { λ b. ⌜ b ≡ isSoundTable (now (table .entry)) ⌝ }
 {
     if table.len() != 64 {
@@ -84,10 +83,10 @@ pub fn is_sound(table: &[Entry]) -> bool
     let mut ok = true;
     let mut i = 0;
     while i < 64 {
-        let e = table[i];
-        calls[n] = call_of(e);
-        n += count_of(e);
-        ok = ok & is_sound_entry(e);
+        let slot = table[i];
+        calls[n] = call_of(slot);
+        n += count_of(slot);
+        ok = ok & is_sound_slot(slot);
         i += 1;
     }
     ok & is_once(&calls[..n])

@@ -1,13 +1,12 @@
 // Where an item's call stands in the table, or where a Setup may go.
 ghost use mathlib.Core.Path.{_≡_};
 ghost use lib.ListN.{length};
-ghost use Rattle.table.specs.Table.{find, isNone, isCall};
-ghost use Rattle.table.specs.Entry.{ownerOf};
-ghost use Rattle.table.specs.Lookup.{locateOf, placeOf, isOf, placeFound};
-use crate::entry::Entry;
-use crate::entry::Owner;
+ghost use Rattle.table.specs.Table.{find, placeOr, isNone, isCall};
+ghost use Rattle.table.specs.Slot.{ownerOf};
+ghost use Rattle.table.specs.Lookup.{locateOf, slotOf, isOf};
+use crate::slot::*;
 
-// The call's entry; else the lowest free one; else none.
+// The call's slot; else the lowest free one; else none.
 pub enum Spot {
     Nowhere,
     Free(usize),
@@ -32,26 +31,26 @@ fn is_call(owner: Owner, call: u32) -> bool
     }
 }
 
-// The entry has the owner that is looked for.
-pub(crate) fn is_of(wanted: Owner, e: Entry) -> bool
-    ensures { λ b. ⌜ b ≡ isOf wanted e ⌝ }
+// The slot has the owner that is looked for.
+pub(crate) fn is_of(wanted: Owner, slot: Slot) -> bool
+    ensures { λ b. ⌜ b ≡ isOf wanted slot ⌝ }
 {
-    let owner = e.owner;
+    let owner = slot.owner;
     match wanted {
         Owner::Free => is_free(owner),
         Owner::Call(k) => is_call(owner, k),
     }
 }
 
-// The place of the first entry that has the owner; 64 where none has.
-pub(crate) fn first_of(table: &[Entry], wanted: Owner) -> usize
+// The place of the first slot that has the owner; 64 where none has.
+pub(crate) fn first_of(table: &[Slot], wanted: Owner) -> usize
     requires { ⌜ length (now table) ≡ 64 ⌝ }
-    ensures { λ i. ⌜ i ≡ placeFound (find (isOf wanted) (now (table .entry))) ⌝ }
+    ensures { λ i. ⌜ i ≡ placeOr 64 (find (isOf wanted) (now (table .entry))) ⌝ }
 {
     let mut i = 0;
     while i < 64 {
-        let e = table[i];
-        if is_of(wanted, e) {
+        let slot = table[i];
+        if is_of(wanted, slot) {
             return i;
         }
         i += 1;
@@ -59,8 +58,8 @@ pub(crate) fn first_of(table: &[Entry], wanted: Owner) -> usize
     64
 }
 
-// The call's entry, or else the lowest free one, which is looked for only then.
-pub(crate) fn locate(table: &[Entry], call: u32) -> Spot
+// The call's slot, or else the lowest free one, which is looked for only then.
+pub(crate) fn locate(table: &[Slot], call: u32) -> Spot
     requires { ⌜ length (now table) ≡ 64 ⌝ }
     ensures { λ s. ⌜ s ≡ locateOf call (now (table .entry)) ⌝ }
 {
@@ -75,9 +74,9 @@ pub(crate) fn locate(table: &[Entry], call: u32) -> Spot
     Spot::Nowhere
 }
 
-// The place of the entry that is looked at; where there is none, the first, which then stays as it is.
-pub(crate) fn place_of(s: Spot) -> usize
-    ensures { λ i. ⌜ i ≡ placeOf s ⌝ }
+// The number of the slot that is looked at; where there is none, the first, which then stays as it is.
+pub(crate) fn slot_of(s: Spot) -> usize
+    ensures { λ i. ⌜ i ≡ slotOf s ⌝ }
 {
     match s {
         Spot::Nowhere => 0,

@@ -1,12 +1,9 @@
-// What an item makes of the one entry that it may change (document 01, Numbered refusals 1 to 6; One call).
+// What an item makes of the one slot that it may change (document 01, Numbered refusals 1 to 6; One call).
 ghost use mathlib.Core.Path.{_≡_};
 ghost use mathlib.Core.Bool.{cond, _&&_};
-ghost use lib.Dec.{eqb};
-ghost use Rattle.forms.specs.Item.{formOf};
-ghost use Rattle.table.specs.Serve.{denied, openedAs, setUp, met, actedOn, actedOf, ownerAfter, entryAfter, isRefused, damagedOf};
-use crate::entry::Entry;
-use crate::entry::Owner;
+ghost use Rattle.table.specs.Serve.{denied, openedAs, setUp, respondedAt, actedOn, actedOf, ownerAfter, slotAfter, isRefused, damagedOf};
 use crate::lookup::Spot;
+use crate::slot::*;
 use call::answers;
 use call::answers::*;
 use call::record::Record;
@@ -18,15 +15,6 @@ use forms::item::*;
 use forms::profile;
 use forms::profile::ReadProfile;
 
-fn is_setup(body: Body) -> bool
-    ensures { λ b. ⌜ b ≡ eqb (formOf body .kind) 1 ⌝ }
-{
-    match body {
-        Body::Setup(_, _, _, _) => true,
-        _ => false,
-    }
-}
-
 // A Setup that can open no call: the refusal that comes before, else n.
 fn deny(r: Record, answer: Answer, n: u8) -> Stepped
     ensures { λ s. ⌜ s ≡ denied r answer n ⌝ }
@@ -37,7 +25,7 @@ fn deny(r: Record, answer: Answer, n: u8) -> Stepped
     }
 }
 
-// A Setup for a free entry, of which `call` made an answer and a next record.
+// A Setup for a free slot, of which `call` made an answer and a next record.
 fn open(r: Record, answer: Answer, next: Record) -> Stepped
     ensures { λ s. ⌜ s ≡ openedAs r answer next ⌝ }
 {
@@ -61,8 +49,8 @@ fn set_up(r: Record, s: Spot, o: Stepped) -> Stepped
 }
 
 // All but a Setup.
-fn meet(r: Record, s: Spot, i: Item, rest: &[u8]) -> Stepped
-    ensures { λ q. ⌜ q ≡ met s r i (now (rest .entry)) ⌝ }
+fn respond_at(r: Record, s: Spot, i: Item, rest: &[u8]) -> Stepped
+    ensures { λ q. ⌜ q ≡ respondedAt s r i (now (rest .entry)) ⌝ }
 {
     match s {
         Spot::Nowhere => answers::refuse(r, 4),
@@ -76,18 +64,18 @@ fn act_on(r: Record, s: Spot, i: Item, rest: &[u8], profile: &[u8]) -> Stepped
     ensures { λ q. ⌜ q ≡ actedOn s r i (now (rest .entry)) (now (profile .entry)) ⌝ }
 {
     let body = i.body;
-    if is_setup(body) {
+    if item::is_setup(body) {
         set_up(r, s, setup::open(i, rest, profile))
     } else {
-        meet(r, s, i, rest)
+        respond_at(r, s, i, rest)
     }
 }
 
-// The bytes of an item and of a profile, for the entry that stands at the spot.
-pub(crate) fn act(e: Entry, s: Spot, bytes: &[u8], profile: &[u8]) -> Stepped
-    ensures { λ q. ⌜ q ≡ actedOf s (e .body) (now (bytes .entry)) (now (profile .entry)) ⌝ }
+// The bytes of an item and of a profile, for the slot that stands at the spot.
+pub(crate) fn act(slot: Slot, s: Spot, bytes: &[u8], profile: &[u8]) -> Stepped
+    ensures { λ q. ⌜ q ≡ actedOf s (slot .body) (now (bytes .entry)) (now (profile .entry)) ⌝ }
 {
-    let r = e.body;
+    let r = slot.body;
     let read = item::read_item(bytes);
     match read {
         ReadItem::Item(i, at) => act_on(r, s, i, bytes::from(bytes, at), profile),
@@ -111,15 +99,15 @@ fn owner_after(owner: Owner, call: u32, answer: Answer) -> Owner
     }
 }
 
-// The record that remains stands in the entry whatever the answer is: it is the old one after a refusal, and blank when the call is over.
-pub(crate) fn entry_after(e: Entry, call: u32, s: Stepped) -> Entry
-    ensures { λ q. ⌜ q ≡ entryAfter e call s ⌝ }
+// The record that remains stands in the slot whatever the answer is: it is the old one after a refusal, and blank when the call is over.
+pub(crate) fn slot_after(slot: Slot, call: u32, s: Stepped) -> Slot
+    ensures { λ q. ⌜ q ≡ slotAfter slot call s ⌝ }
 {
-    let old = e.owner;
+    let old = slot.owner;
     let answer = s.answer;
     let body = s.next;
     let owner = owner_after(old, call, answer);
-    Entry { owner, body }
+    Slot { owner, body }
 }
 
 pub(crate) fn answer_of(s: Stepped) -> Answer
@@ -146,7 +134,7 @@ pub(crate) fn refuse_damaged(bytes: &[u8], profile: &[u8]) -> Answer
     match read {
         ReadItem::Item(i, at) => {
             let body = i.body;
-            Answer::Refused(damage_after(is_setup(body), p))
+            Answer::Refused(damage_after(item::is_setup(body), p))
         }
         ReadItem::Refused(n) => Answer::Refused(n),
     }

@@ -1,16 +1,18 @@
-// An entry of the table as 87 bytes, both ways: the form in which the test program takes tables that no run reaches, damaged ones too.
-// Numbers are big-endian. Each field has a fixed place, so that any value which an entry can hold has a form:
+// A slot of the table as 87 bytes, both ways: the form in which the test program takes tables that no run reaches, damaged ones too.
+// Numbers are big-endian. Each field has a fixed place, so that any value which a slot can hold has a form:
 //   0 owner (0 free, 1 a call), 1 call (4), 5 stage, 6 leg 1, 24 leg 2, 42 hold, 43 last time (8), 51 ten armings,
 //   61 kept timer (4), 65 default timer (4), 69 default handling, 70 called number: nature, count, 15 digits
 // A leg: presence, charge (0 none, 1 waiting, 2 running), period (8), start (8). Enums are numbered as they are declared; a hold at a role is 2 more than the role's place.
 ghost use Prim.Native.Nat.{_<_};
-use call::points::Role;
+use call::armings::*;
 use call::record::*;
+use call::roles::Role;
+use call::stages::Stage;
 use forms::bytes;
 use forms::profile::Handling;
 use forms::units::*;
-use table::entry::Entry;
-use table::entry::Owner;
+use table::slot::Owner;
+use table::slot::Slot;
 
 pub const SIZE: usize = 87;
 
@@ -153,11 +155,11 @@ fn record_at(s: &[u8]) -> Record {
     }
 }
 
-// The entry whose form s begins with.
-pub(crate) fn entry_of(s: &[u8]) -> Entry {
+// The slot whose form s begins with.
+pub(crate) fn slot_of(s: &[u8]) -> Slot {
     let owner = owner_at(s);
     let body = record_at(s);
-    Entry { owner, body }
+    Slot { owner, body }
 }
 
 fn put(d: &mut [u8], at: usize, b: u8) {
@@ -330,10 +332,10 @@ fn put_settings(d: &mut [u8], r: Record) {
     put_number(d, number);
 }
 
-// The form of an entry, at the start of d.
-pub(crate) fn put_entry(d: &mut [u8], e: Entry) {
-    let owner = e.owner;
-    let body = e.body;
+// The form of a slot, at the start of d.
+pub(crate) fn put_slot(d: &mut [u8], slot: Slot) {
+    let owner = slot.owner;
+    let body = slot.body;
     put_owner(d, owner);
     put_state(d, body);
     put_settings(d, body);

@@ -1,6 +1,6 @@
 // A test program: tables as bytes on standard input, damaged ones and such as no run reaches, each with one item, which goes through the public `feed`.
-// A case: its length (2 bytes, themselves included), the number of entries n (0..100), n entries (form.rt), the length of a profile (1 byte) and the profile, and the item's bytes to the end.
-// Each case is answered by the item's line of a listing, with the case's number, and by the n entries as they are then.
+// A case: its length (2 bytes, themselves included), the number of slots n (0..100), n slots (form.rt), the length of a profile (1 byte) and the profile, and the item's bytes to the end.
+// Each case is answered by the item's line of a listing, with the case's number, and by the n slots as they are then.
 ghost use mathlib.Core.Path.{_≡_};
 ghost use Prim.Native.Nat.{_≤_};
 ghost use lib.ListN.{length};
@@ -11,10 +11,10 @@ use call::answers::Answer;
 use forms::bytes;
 use libc::STDIN_FILENO;
 use libc::STDOUT_FILENO;
-use table::entry;
-use table::entry::Entry;
 use table::feed;
 use table::line;
+use table::slot;
+use table::slot::Slot;
 
 const MOST: usize = 100;
 
@@ -24,7 +24,7 @@ fn wide(b: u8) -> usize
     b as usize
 }
 
-// How many entries the table has.
+// How many slots the table has.
 fn count_of(s: &[u8]) -> usize
     ensures { λ r. ⌜ r ≤ 100 ⌝ }
 {
@@ -32,7 +32,7 @@ fn count_of(s: &[u8]) -> usize
     if n <= MOST { n } else { MOST }
 }
 
-// What follows the entries: the length of the profile, the profile, the item.
+// What follows the slots: the length of the profile, the profile, the item.
 fn tail_of(s: &[u8]) -> &[u8] {
     bytes::from(s, 3 + count_of(s) * form::SIZE)
 }
@@ -47,46 +47,46 @@ fn item_of(s: &[u8]) -> &[u8] {
     bytes::from(t, 1 + wide(bytes::at(t, 0)))
 }
 
-// The entries of the case, in as many places as any case may need.
-fn entries_of(s: &[u8]) -> [Entry; 100]
+// The slots of the case, in as many places as any case may need.
+fn slots_of(s: &[u8]) -> [Slot; 100]
     ensures { λ r. ⌜ length r ≡ 100 ⌝ }
 {
-    let blank = entry::blank_entry();
-    let mut entries = [blank; 100];
+    let blank = slot::blank_slot();
+    let mut slots = [blank; 100];
     let n = count_of(s);
     let mut i = 0;
     while i < n {
-        entries[i] = form::entry_of(bytes::from(s, 3 + i * form::SIZE));
+        slots[i] = form::slot_of(bytes::from(s, 3 + i * form::SIZE));
         i += 1;
     }
-    entries
+    slots
 }
 
-fn put_at(d: &mut [u8], at: usize, e: Entry) {
+fn put_at(d: &mut [u8], at: usize, slot: Slot) {
     if at <= d.len() {
-        form::put_entry(&mut d[at..], e);
+        form::put_slot(&mut d[at..], slot);
     }
 }
 
-// Stores the line and the first n entries; answers how many bytes that is.
-fn put_answer(d: &mut [u8], number: u64, answer: Answer, n: usize, entries: [Entry; 100]) -> usize
+// Stores the line and the first n slots; answers how many bytes that is.
+fn put_answer(d: &mut [u8], number: u64, answer: Answer, n: usize, slots: [Slot; 100]) -> usize
     requires { ⌜ n ≤ 100 ⌝ }
 {
-    let end = line::line(d, 0, number, answer);
+    let end = line::place_after(line::line(d, 0, number, answer), 0);
     let mut i = 0;
     while i < n {
-        put_at(d, end + i * form::SIZE, entries[i]);
+        put_at(d, end + i * form::SIZE, slots[i]);
         i += 1;
     }
     end + n * form::SIZE
 }
 
-// Lends the first n entries, and answers the case.
+// Lends the first n slots, and answers the case.
 fn answer_case(s: &[u8], d: &mut [u8], number: u64) -> usize {
-    let mut entries = entries_of(s);
+    let mut slots = slots_of(s);
     let n = count_of(s);
-    let a = feed::feed(&mut entries[..n], item_of(s), profile_of(s));
-    put_answer(d, number, a, n, entries)
+    let a = feed::feed(&mut slots[..n], item_of(s), profile_of(s));
+    put_answer(d, number, a, n, slots)
 }
 
 // Reads one case to the start of s; answers its length, 0 where there is none, or none that is whole.

@@ -13,16 +13,16 @@ use Rattle.bench.proofs.run.Statement.{statement}
 use Rattle.bench.proofs.run.Proof.Tie as tie
 
 abbrev Inv-loop : tie.InvT-loop
-Inv-loop buf checked entries₀ s₀ entries s = isSoundTable entries ≡ true
+Inv-loop buf checked slots₀ s₀ slots s = isSoundTable slots ≡ true
 
 abbrev μ-loop : tie.MeasureT-loop
-μ-loop buf checked entries₀ s₀ entries s = s .left
+μ-loop buf checked slots₀ s₀ slots s = s .left
 
 slice-aggregate-feed : tie.Need-slice-aggregate-feed Inv-loop μ-loop
-slice-aggregate-feed c = let p = c .before .before .before .before .loop in sym (sound-size (p .entries) [] [] (p .inv))
+slice-aggregate-feed c = let p = c .before .before .before .before .loop in sym (sound-size (p .slots) [] [] (p .inv))
 
 slice-aggregate-feed-sound : tie.Need-slice-aggregate-feed-sound Inv-loop μ-loop
-slice-aggregate-feed-sound c = let p = c .before .before .before .before .loop in sym (sound-size (p .entries) [] [] (p .inv))
+slice-aggregate-feed-sound c = let p = c .before .before .before .before .loop in sym (sound-size (p .slots) [] [] (p .inv))
 
 loop-again : tie.Need-loop-again Inv-loop μ-loop
 loop-again c =

@@ -13,10 +13,10 @@ use Rattle.listing.proofs.run.Statement.{statement}
 use Rattle.listing.proofs.run.Proof.Tie as tie
 
 abbrev Inv-loop : tie.InvT-loop
-Inv-loop buf₀ entries₀ s₀ buf entries s = (length buf ≡ length buf₀) × (length entries ≡ 64) × (isSoundTable entries ≡ true)
+Inv-loop buf₀ slots₀ s₀ buf slots s = (length buf ≡ length buf₀) × (length slots ≡ 64) × (isSoundTable slots ≡ true)
 
 abbrev μ-loop : tie.MeasureT-loop
-μ-loop buf₀ entries₀ s₀ buf entries s = remaining s
+μ-loop buf₀ slots₀ s₀ buf slots s = remaining s
 
 loop-holds : tie.Need-loop-holds Inv-loop μ-loop
 unfolding fresh
@@ -29,20 +29,22 @@ feed-sound-requires : tie.Need-feed-sound-requires Inv-loop μ-loop
 feed-sound-requires c κs = c .before .before .before .before .before .loop .inv .2
 
 loop-less : tie.Need-loop-less Inv-loop μ-loop
-loop-less c = rw (c .before .before .before .before .before .before .before .before .before .before .loop-test .taken) (c .before .before .advance .ensures)
+loop-less c = let fed = c .before .before .before .before .before in rw (fed .before .before .before .before .before .loop-test .taken) (c .before .before .advance .ensures)
 
 loop-again : tie.Need-loop-again Inv-loop μ-loop
 loop-again c =
-    let f = c .before .before .before .before .before .feed-sound in
-    let l = c .before .before .before .before .before .before .before .before .before .before .before .loop .inv in
+    let fed = c .before .before .before .before .before in
+    let f = fed .feed-sound in
+    let l = fed .before .before .before .before .before .before .loop .inv in
     let r = c .before .before .advance .ok in
     let q = f .ok in
     (omega arith, omega arith, f .ensures .1)
 
 same-length : tie.Need-same-length Inv-loop μ-loop
 same-length c =
-    let l = c .before .before .before .before .before .loop .inv in
-    let r = c .before .before .before .before .before .before .before .before .start .ok in
+    let looped = c .before .before .before .before .before in
+    let l = looped .loop .inv in
+    let r = looped .before .before .before .start .ok in
     let f = c .before .before .finish .ok in
     omega arith
 

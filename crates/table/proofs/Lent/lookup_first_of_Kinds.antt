@@ -1,8 +1,8 @@
 -- Made by tools/transplant.py of the derivation that Rattle generates for the surrogate of `table::lookup::first_of`: not written by hand.
 use Rattle.table.proofs.ByValue
 use Rattle.table.proofs.Elem
-use Rattle.table.proofs.entry.Owner
-use Rattle.table.proofs.entry.Owner.Laws
+use Rattle.table.proofs.slot.Owner
+use Rattle.table.proofs.slot.Owner.Laws
 use borrow.Fn.Kinds
 use borrow.Kind.ShrSlice
 use mathlib.Core.List.{List, [], _∷_}

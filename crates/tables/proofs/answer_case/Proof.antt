@@ -1,4 +1,4 @@
--- `tables::answer_case` is safe: no more entries are lent than there are. (`Proof/` is made by tools/transplant.py.)
+-- `tables::answer_case` is safe: no more slots are lent than there are. (`Proof/` is made by tools/transplant.py.)
 mod Lts
 mod Tie
 use mathlib.Core.Path.{_≡_, sym}
@@ -12,12 +12,12 @@ use Rattle.tables.proofs.answer_case.Proof.Tie as tie
 within : {n m : ℕ} → n ≤ 100 → m ≡ 100 → n ≤ m
 within h e = omega arith
 
-array-borrow-prefix-entries : tie.Need-array-borrow-prefix-entries
-array-borrow-prefix-entries c = within (c .count-of .ensures) (c .before .entries-of .ensures)
+array-borrow-prefix-slots : tie.Need-array-borrow-prefix-slots
+array-borrow-prefix-slots c = within (c .count-of .ensures) (c .before .slots-of .ensures)
 
 slice-aggregate-feed : tie.Need-slice-aggregate-feed
 slice-aggregate-feed c =
-    let e = c .before .before .entries-of in
+    let e = c .before .before .slots-of in
     sym (length-take-le _ (e .result) (within (c .before .count-of .ensures) (e .ensures)))
 
 put-answer-requires : tie.Need-put-answer-requires
@@ -27,4 +27,4 @@ pub answer-case-spec : {M : Type 1} → statement M
 answer-case-spec =
     tie.close
     (tie.spec
-    (λ c κs. search needs) (λ c κs. search needs) array-borrow-prefix-entries slice-aggregate-feed (λ c κs. search needs) (λ c κs. search needs) (λ c κs. search needs) put-answer-requires (λ c. search needs) (λ c. search needs))
+    (λ c κs. search needs) (λ c κs. search needs) array-borrow-prefix-slots slice-aggregate-feed (λ c κs. search needs) (λ c κs. search needs) (λ c κs. search needs) put-answer-requires (λ c. search needs) (λ c. search needs))

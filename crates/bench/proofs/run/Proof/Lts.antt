@@ -298,7 +298,7 @@ abbrev b40 : Body
 b40 = seq (assign (place 0 []) (rvOpd (copy (place 4 [])))) Syntax.return
 
 abbrev b44 : Body
-b44 = seq (call "table::entry::fresh" [] (place 7 [])) (seq (assign (place 3 []) (rvOpd (copy (place 7 [])))) (seq (call "bench::start" ((copy (place 1 [])) ∷ []) (place 4 [])) (seq b37 b40)))
+b44 = seq (call "table::slot::fresh" [] (place 7 [])) (seq (assign (place 3 []) (rvOpd (copy (place 7 [])))) (seq (call "bench::start" ((copy (place 1 [])) ∷ []) (place 4 [])) (seq b37 b40)))
 
 abbrev body : Body
 body = b44
@@ -664,7 +664,7 @@ module _ (claims· : Claims) where
   module _ (Pre· : (κs : Lfts 1) → Dens κs ps → Type 0) (Post· : (κs : Lfts 1) → (a : Dens κs ps) → Kinds.Plain 1 ps r κs) where
     module _ (M : Type 1) where
       abbrev pub Closed : Type 2
-      Closed = (𝓤 : URA M) (H : Wp.Heap 𝓤) (A : Atoms 𝓤) (W : Given 𝓤 H A) (𝓣 : Wp.Tables 𝓤 H) (known0 : Known 𝓤 H A W 𝓣 0 ps·0 r·0 (claims· .0) (claims· .1) "table::entry::fresh") (known1 : Known 𝓤 H A W 𝓣 1 ps·1 r (claims· .2) (claims· .3) "bench::start") (known2 : Known 𝓤 H A W 𝓣 1 ps·2 r·2 (claims· .4) (claims· .5) "bench::item_of") (known3 : Known 𝓤 H A W 𝓣 1 ps·1 r·2 (claims· .6) (claims· .7) "bench::profile_of") (known4 : Known 𝓤 H A W 𝓣 3 ps·4 r·4 (claims· .8) (claims· .9) "table::feed::feed") (known5 : Known 𝓤 H A W 𝓣 3 ps·4 r·4 (claims· .10) (claims· .11) "table::feed::feed_sound") (known6 : Known 𝓤 H A W 𝓣 1 ps·6 r (claims· .12) (claims· .13) "bench::advance") → Triple 𝓤 (Wp.WpFn 𝓤 H (𝓣 .C) (𝓣 .Λ) (fnOf 1 ps r xs m hs body)) (plainOf 𝓤 H A 1 ps r Pre· Post·)
+      Closed = (𝓤 : URA M) (H : Wp.Heap 𝓤) (A : Atoms 𝓤) (W : Given 𝓤 H A) (𝓣 : Wp.Tables 𝓤 H) (known0 : Known 𝓤 H A W 𝓣 0 ps·0 r·0 (claims· .0) (claims· .1) "table::slot::fresh") (known1 : Known 𝓤 H A W 𝓣 1 ps·1 r (claims· .2) (claims· .3) "bench::start") (known2 : Known 𝓤 H A W 𝓣 1 ps·2 r·2 (claims· .4) (claims· .5) "bench::item_of") (known3 : Known 𝓤 H A W 𝓣 1 ps·1 r·2 (claims· .6) (claims· .7) "bench::profile_of") (known4 : Known 𝓤 H A W 𝓣 3 ps·4 r·4 (claims· .8) (claims· .9) "table::feed::feed") (known5 : Known 𝓤 H A W 𝓣 3 ps·4 r·4 (claims· .10) (claims· .11) "table::feed::feed_sound") (known6 : Known 𝓤 H A W 𝓣 1 ps·6 r (claims· .12) (claims· .13) "bench::advance") → Triple 𝓤 (Wp.WpFn 𝓤 H (𝓣 .C) (𝓣 .Λ) (fnOf 1 ps r xs m hs body)) (plainOf 𝓤 H A 1 ps r Pre· Post·)
 
     module _ (Inv·0 : InvT-loop) (μ·0 : MeasureT-loop) where
       abbrev held·0 : Mo T6 → (arrF Elem.row 64 0 .Mod × whole State·row .Mod) → Type 0
@@ -753,7 +753,7 @@ module _ (claims· : Claims) where
 
       module _ {M : Type 1} (𝓤 : URA M) (H : Wp.Heap 𝓤) (A : Atoms 𝓤) (W : Given 𝓤 H A) (𝓣 : Wp.Tables 𝓤 H) where
         abbrev Knowns : Type 1
-        Knowns = Known 𝓤 H A W 𝓣 0 ps·0 r·0 (claims· .0) (claims· .1) "table::entry::fresh" × Known 𝓤 H A W 𝓣 1 ps·1 r (claims· .2) (claims· .3) "bench::start" × Known 𝓤 H A W 𝓣 1 ps·2 r·2 (claims· .4) (claims· .5) "bench::item_of" × Known 𝓤 H A W 𝓣 1 ps·1 r·2 (claims· .6) (claims· .7) "bench::profile_of" × Known 𝓤 H A W 𝓣 3 ps·4 r·4 (claims· .8) (claims· .9) "table::feed::feed" × Known 𝓤 H A W 𝓣 3 ps·4 r·4 (claims· .10) (claims· .11) "table::feed::feed_sound" × Known 𝓤 H A W 𝓣 1 ps·6 r (claims· .12) (claims· .13) "bench::advance"
+        Knowns = Known 𝓤 H A W 𝓣 0 ps·0 r·0 (claims· .0) (claims· .1) "table::slot::fresh" × Known 𝓤 H A W 𝓣 1 ps·1 r (claims· .2) (claims· .3) "bench::start" × Known 𝓤 H A W 𝓣 1 ps·2 r·2 (claims· .4) (claims· .5) "bench::item_of" × Known 𝓤 H A W 𝓣 1 ps·1 r·2 (claims· .6) (claims· .7) "bench::profile_of" × Known 𝓤 H A W 𝓣 3 ps·4 r·4 (claims· .8) (claims· .9) "table::feed::feed" × Known 𝓤 H A W 𝓣 3 ps·4 r·4 (claims· .10) (claims· .11) "table::feed::feed_sound" × Known 𝓤 H A W 𝓣 1 ps·6 r (claims· .12) (claims· .13) "bench::advance"
 
       module _ (κs : Lfts 1) (qs : Shares 1) where
         abbrev ℓ·0 : Life
@@ -867,7 +867,7 @@ module _ (claims· : Claims) where
           d29 = t-seq 𝓤 H A W 𝓣 E G9 G6 b6 b33 Δ3 at5 (at28 bs) (t-cond 𝓤 H A W E 𝓣 G9 8 (λ x. x) b4 b5 Δ4 at1 at4 (reads-sc 𝓤 H A W sBool) refl (Joins.pre W (g-room 𝓤 H A W E G9 8 tyBool (room-sc 𝓤 H A W sBool)) (Typed.t-skip 𝓤 H A W 𝓣 E Δ4 tt)) (Joins.pre W (g-room 𝓤 H A W E G9 3 ty·5 (Init.room-arr 𝓤 H A W Elem.row 64 0 64 refl)) (Joins.pre W (g-room 𝓤 H A W E (cx (_++_ t9 t1) ls·4) 8 tyBool (room-sc 𝓤 H A W sBool)) (Typed.t-exit 𝓤 H A W 𝓣 E 1 Δ4 tt)))) (then W (t-use 𝓤 H A W E 𝓣 G6 (oAt 2 tyBool (valS sBool)) 8 (sc-here sBool) tyBool (valS sBool) (sBool .of) (reads-sc 𝓤 H A W sBool, refl) (room-gone 𝓤 H A tyBool) (holds-sc 𝓤 H A W sBool) refl (λ u. refl) λ u. tt) (t-seq 𝓤 H A W 𝓣 E G9 G15 b26 b31 Δ3 (at20 bs) (at26 bs) (t-cond 𝓤 H A W E 𝓣 G9 8 (λ x. x) b16 b25 Δ5 (at12 bs) (at19 bs) (reads-sc 𝓤 H A W sBool) refl (Joins.pre W (g-room 𝓤 H A W E G9 8 tyBool (room-sc 𝓤 H A W sBool)) (Joins.pre W (g-begin 𝓤 H A W E G6 1 (tt, (tt, (tt, (tt, (tt, (tt, (tt, (tt, (tt, (tt, (tt, (tt, (tt, (tt, (tt, (tt, (tt, (tt, tt))))))))))))))))))) (then W (Borrow.t-arr-borrow 𝓤 H A W E 𝓣 Elem.row (cx (_++_ t6 t1) ls·0) 3 10 64 1 ty·2 (λ x. x) (as-is 𝓤 H A (arrF Elem.row 64 0)) (room-gone 𝓤 H A ty·2) refl (λ b o. tt) (lit< tt, lit< tt)) (then W (t-sl-aggregate 𝓤 H A W E Elem.row 𝓣 (asMut Elem.row) (cx (_++_ t11 t1) ls·0) 10 11 1 ty·2 ty·6 (λ x. x) (oInt w64 64) (as-is 𝓤 H A (msptr Elem.row ty·2 1)) (room-gone 𝓤 H A ty·1) tt refl refl λ b o k. tt) d8)))) (Joins.pre W (g-room 𝓤 H A W E G9 8 tyBool (room-sc 𝓤 H A W sBool)) (Joins.pre W (g-begin 𝓤 H A W E G6 2 (tt, (tt, (tt, (tt, (tt, (tt, (tt, (tt, (tt, (tt, (tt, (tt, (tt, (tt, (tt, (tt, (tt, (tt, tt))))))))))))))))))) (then W (Borrow.t-arr-borrow 𝓤 H A W E 𝓣 Elem.row (cx (_++_ t6 t1) ls·2) 3 14 64 2 ty·2 (λ x. x) (as-is 𝓤 H A (arrF Elem.row 64 0)) (room-gone 𝓤 H A ty·2) refl (λ b o. tt) (lit< tt, lit< tt)) (then W (t-sl-aggregate 𝓤 H A W E Elem.row 𝓣 (asMut Elem.row) (cx (_++_ t18 t1) ls·2) 14 15 2 ty·2 ty·6 (λ x. x) (oInt w64 64) (as-is 𝓤 H A (msptr Elem.row ty·2 2)) (room-gone 𝓤 H A ty·1) tt refl refl λ b o k. tt) d15))))) d26))
 
           d42 : Does G0 b44 Δ0 (at42 bs)
-          d42 = then W (t-call-plain 𝓤 H A W 𝓣 0 ps·0 r·0 (claims· .0) (claims· .1) "table::entry::fresh" (known .0) E (λ pos β. β) G0 tt 7 [] (sub-id 𝓤 H A W (G0 .slots)) tt (room-gone 𝓤 H A ty·5) tt refl) (then W (t-val-copy 𝓤 H A W E 𝓣 (λ ρ. Unit) G3 7 3 (Array'.Array Elem.row 64) ty·5 ty·5 (arrF Elem.row 64 0) (arrF Elem.row 64 0) (λ x. x) (λ x. x) (λ x. x) refl (Own.told-none 𝓤 H A (G3 .slots)) (Yields.yields-copy 𝓤 H A W (λ ρ. Unit) (Array'.Array Elem.row 64) refl (cArr Elem.row Elem.copies 64 .copy 𝓤 H A W) (arrF Elem.row 64 0) (λ x. x) (λ x. x) (λ ρ told. Whole.mem-arr 𝓤 H A W Elem.row 64 ρ) λ ρ told. Whole.arr-mem 𝓤 H A W Elem.row 64 tt ρ) (room-gone 𝓤 H A ty·5) (Yields.makes-mem 𝓤 H A W (λ ρ. Unit) (Array'.Array Elem.row 64) refl (arrF Elem.row 64 0) (λ x. x) λ ρ told. Whole.arr-mem 𝓤 H A W Elem.row 64 tt ρ) refl refl) (Joins.pre W (g-room 𝓤 H A W E G4 7 ty·5 (Init.room-arr 𝓤 H A W Elem.row 64 0 64 refl)) (then W (t-call-plain 𝓤 H A W 𝓣 1 ps·1 r (claims· .2) (claims· .3) "bench::start" (known .1) E (λ pos β. β) G5 (record { pos = 1; ty = tyRef (named 0) imm (tyInt w8); ref = λ x. x }, tt) 4 (0 ∷ []) (sub-id 𝓤 H A W (G5 .slots)) (spares-sslice 𝓤 H A W u8 ty·3 0, reads-sslice 𝓤 H A W u8 ty·3 0, refl, tt) (room-gone 𝓤 H A Laws.mir) (tt, tt) refl) (t-seq 𝓤 H A W 𝓣 E G6 G7 b37 b40 Δ0 (at33 bs) at37 (Typed.t-block 𝓤 H A W 𝓣 E G6 b36 Δ1 (at32 bs) (Typed.t-loop-by 𝓤 H A W 𝓣 E G6 b35 Δ2 put0 held·0 left·0 (at31 bs) (Joins.pre W (Know'.g-struct-known 𝓤 H A W E State.the-type Laws.the-laws G6 4 (λ x. x) (as-is 𝓤 H A (whole State·row))) (then W (t-op2 𝓤 H A W E 𝓣 G6 (lt unsigned) (oInt w64 0) (oFld 4 ((field 2) ∷ []) (tyInt w64) 16 (Reads.fieldV State.the-type Laws.the-laws 2)) 8 (sc-here sBool) tyBool (valS sBool) (sBool .of) tt (Reads.reads-field 𝓤 H A W State.the-type Laws.the-laws 2 (tyInt w64) 16 refl, refl) (room-gone 𝓤 H A tyBool) (holds-sc 𝓤 H A W sBool) refl (λ u. refl) λ u. tt) d29)))) (then W (t-val-copy 𝓤 H A W E 𝓣 (λ ρ. Unit) G7 4 0 State·row Laws.mir Laws.mir (whole State·row) (whole State·row) (λ x. x) (λ x. x) (λ x. x) refl (Own.told-none 𝓤 H A (G7 .slots)) (yields W State·row refl (cStruct State.the-type Laws.the-laws Laws.the-copy)) (room-gone 𝓤 H A Laws.mir) (makes W State·row refl) refl refl) (Joins.pre W (g-room 𝓤 H A W E G47 4 Laws.mir (room-whole 𝓤 H A W State·row Laws.mir refl)) (Joins.pre W (g-room 𝓤 H A W E G48 2 tyBool (room-sc 𝓤 H A W sBool)) (Typed.t-return 𝓤 H A W 𝓣 E Δ0 tt))))))))
+          d42 = then W (t-call-plain 𝓤 H A W 𝓣 0 ps·0 r·0 (claims· .0) (claims· .1) "table::slot::fresh" (known .0) E (λ pos β. β) G0 tt 7 [] (sub-id 𝓤 H A W (G0 .slots)) tt (room-gone 𝓤 H A ty·5) tt refl) (then W (t-val-copy 𝓤 H A W E 𝓣 (λ ρ. Unit) G3 7 3 (Array'.Array Elem.row 64) ty·5 ty·5 (arrF Elem.row 64 0) (arrF Elem.row 64 0) (λ x. x) (λ x. x) (λ x. x) refl (Own.told-none 𝓤 H A (G3 .slots)) (Yields.yields-copy 𝓤 H A W (λ ρ. Unit) (Array'.Array Elem.row 64) refl (cArr Elem.row Elem.copies 64 .copy 𝓤 H A W) (arrF Elem.row 64 0) (λ x. x) (λ x. x) (λ ρ told. Whole.mem-arr 𝓤 H A W Elem.row 64 ρ) λ ρ told. Whole.arr-mem 𝓤 H A W Elem.row 64 tt ρ) (room-gone 𝓤 H A ty·5) (Yields.makes-mem 𝓤 H A W (λ ρ. Unit) (Array'.Array Elem.row 64) refl (arrF Elem.row 64 0) (λ x. x) λ ρ told. Whole.arr-mem 𝓤 H A W Elem.row 64 tt ρ) refl refl) (Joins.pre W (g-room 𝓤 H A W E G4 7 ty·5 (Init.room-arr 𝓤 H A W Elem.row 64 0 64 refl)) (then W (t-call-plain 𝓤 H A W 𝓣 1 ps·1 r (claims· .2) (claims· .3) "bench::start" (known .1) E (λ pos β. β) G5 (record { pos = 1; ty = tyRef (named 0) imm (tyInt w8); ref = λ x. x }, tt) 4 (0 ∷ []) (sub-id 𝓤 H A W (G5 .slots)) (spares-sslice 𝓤 H A W u8 ty·3 0, reads-sslice 𝓤 H A W u8 ty·3 0, refl, tt) (room-gone 𝓤 H A Laws.mir) (tt, tt) refl) (t-seq 𝓤 H A W 𝓣 E G6 G7 b37 b40 Δ0 (at33 bs) at37 (Typed.t-block 𝓤 H A W 𝓣 E G6 b36 Δ1 (at32 bs) (Typed.t-loop-by 𝓤 H A W 𝓣 E G6 b35 Δ2 put0 held·0 left·0 (at31 bs) (Joins.pre W (Know'.g-struct-known 𝓤 H A W E State.the-type Laws.the-laws G6 4 (λ x. x) (as-is 𝓤 H A (whole State·row))) (then W (t-op2 𝓤 H A W E 𝓣 G6 (lt unsigned) (oInt w64 0) (oFld 4 ((field 2) ∷ []) (tyInt w64) 16 (Reads.fieldV State.the-type Laws.the-laws 2)) 8 (sc-here sBool) tyBool (valS sBool) (sBool .of) tt (Reads.reads-field 𝓤 H A W State.the-type Laws.the-laws 2 (tyInt w64) 16 refl, refl) (room-gone 𝓤 H A tyBool) (holds-sc 𝓤 H A W sBool) refl (λ u. refl) λ u. tt) d29)))) (then W (t-val-copy 𝓤 H A W E 𝓣 (λ ρ. Unit) G7 4 0 State·row Laws.mir Laws.mir (whole State·row) (whole State·row) (λ x. x) (λ x. x) (λ x. x) refl (Own.told-none 𝓤 H A (G7 .slots)) (yields W State·row refl (cStruct State.the-type Laws.the-laws Laws.the-copy)) (room-gone 𝓤 H A Laws.mir) (makes W State·row refl) refl refl) (Joins.pre W (g-room 𝓤 H A W E G47 4 Laws.mir (room-whole 𝓤 H A W State·row Laws.mir refl)) (Joins.pre W (g-room 𝓤 H A W E G48 2 tyBool (room-sc 𝓤 H A W sBool)) (Typed.t-return 𝓤 H A W 𝓣 E Δ0 tt))))))))
 
           pub typed : Typed.Typed 𝓤 H A 𝓣 E (Γin 1 ps r xs m κs qs) b44 (Δret 1 ps r xs m κs qs) (Φ bs)
           typed = Joins.pre W (Know.g-shs-known 𝓤 H A W (fInt w8) E G0 1 0 ty·3 ℓ·0 0 (λ x. x) record { fits = lit< tt } (as-is 𝓤 H A (sslice u8 ty·3 0)) refl tt) d42
@@ -942,31 +942,31 @@ module _ (claims· : Claims) where
       abbrev pub Need-loop-holds : Type 0
       Need-loop-holds = (c : After-start) → held·0 (m5 (c .before) (After-start·gave c)) (turn·0 (m5 (c .before) (After-start·gave c)))
 
-      abbrev m6 : (before : After-start) → (entries : arrF Elem.row 64 0 .Mod) → (s : whole State·row .Mod) → Mo T6
-      m6 = λ before entries s. set 4 en·15 s (setRow 3 en·9 (T6 .locals)) (set 3 en·9 entries (T6 .locals) (m5 (before .before) (After-start·gave before)))
+      abbrev m6 : (before : After-start) → (slots : arrF Elem.row 64 0 .Mod) → (s : whole State·row .Mod) → Mo T6
+      m6 = λ before slots s. set 4 en·15 s (setRow 3 en·9 (T6 .locals)) (set 3 en·9 slots (T6 .locals) (m5 (before .before) (After-start·gave before)))
 
-      abbrev W3 : (before : After-start) → (entries : arrF Elem.row 64 0 .Mod) → (s : whole State·row .Mod) → Want O3
-      W3 = λ before entries s. Typed.inLoop T6 O2 (Typed.Round T6 O2 put0 held·0 left·0 (at31 (before .before .before .before .blocks)) (m5 (before .before) (After-start·gave before)) (entries, s)) (Typed.inBlock O1 (wantNext T7 O0 (at37 (Wanted ((before .before) .before .before))) (Wanted ((before .before) .before .before))))
+      abbrev W3 : (before : After-start) → (slots : arrF Elem.row 64 0 .Mod) → (s : whole State·row .Mod) → Want O3
+      W3 = λ before slots s. Typed.inLoop T6 O2 (Typed.Round T6 O2 put0 held·0 left·0 (at31 (before .before .before .before .blocks)) (m5 (before .before) (After-start·gave before)) (slots, s)) (Typed.inBlock O1 (wantNext T7 O0 (at37 (Wanted ((before .before) .before .before))) (Wanted ((before .before) .before .before))))
 
       module _ (before· : After-start) where
         pub record At-loop·own : Type 0 where
-          pub entries : arrF Elem.row 64 0 .Mod
+          pub slots : arrF Elem.row 64 0 .Mod
           pub s : whole State·row .Mod
-          pub inv : held·0 (m5 (before· .before) (After-start·gave before·)) (entries, s)
+          pub inv : held·0 (m5 (before· .before) (After-start·gave before·)) (slots, s)
 
       pub record At-loop : Type 0 where
         pub before : After-start
         pub loop : At-loop·own before
 
-      abbrev m7 : (before : At-loop) → (given : s5 .gives (m6 (before .before) (before .loop .entries) (before .loop .s))) → Mo T6
-      m7 = λ before given. s5 .next (m6 (before .before) (before .loop .entries) (before .loop .s)) given
+      abbrev m7 : (before : At-loop) → (given : s5 .gives (m6 (before .before) (before .loop .slots) (before .loop .s))) → Mo T6
+      m7 = λ before given. s5 .next (m6 (before .before) (before .loop .slots) (before .loop .s)) given
 
-      abbrev m8 : (before : At-loop) → (given : s5 .gives (m6 (before .before) (before .loop .entries) (before .loop .s))) → Mo T9
+      abbrev m8 : (before : At-loop) → (given : s5 .gives (m6 (before .before) (before .loop .slots) (before .loop .s))) → Mo T9
       m8 = λ before given. s6 .next (m7 before given)
 
       module _ (before· : At-loop) where
         pub record After-struct-known·own : Type 0 where
-          pub given : s5 .gives (m6 (before· .before) (before· .loop .entries) (before· .loop .s))
+          pub given : s5 .gives (m6 (before· .before) (before· .loop .slots) (before· .loop .s))
 
       pub record After-struct-known : Type 0 where
         pub before : At-loop
@@ -992,7 +992,7 @@ module _ (claims· : Claims) where
       m12 = λ before. s10 (s7 (m8 (before .before) (before .struct-known .given)))
 
       abbrev W5 : (before : After-struct-known) → Want O5
-      W5 = λ before. wantNext T15 O3 (at26 (before .before .before .before .before .before .blocks) (W3 (before .before .before) (before .before .loop .entries) (before .before .loop .s))) (W3 (before .before .before) (before .before .loop .entries) (before .before .loop .s))
+      W5 = λ before. wantNext T15 O3 (at26 (before .before .before .before .before .before .blocks) (W3 (before .before .before) (before .before .loop .slots) (before .before .loop .s))) (W3 (before .before .before) (before .before .loop .slots) (before .before .loop .s))
 
       abbrev m13 : (before : Then1) → Mo T6
       m13 = λ before. s7 (m12 (before .before))
@@ -1009,34 +1009,34 @@ module _ (claims· : Claims) where
       m14 = λ before given. s13 (before .before .before .before .before .before .before .before .blocks) .next (m13 (before .before)) given
 
       module _ (before· : Then2) where
-        pub record After-entries·own : Type 0 where
+        pub record After-slots·own : Type 0 where
           pub given : s13 (before· .before .before .before .before .before .before .before .blocks) .gives (m13 (before· .before))
 
-      pub record After-entries : Type 0 where
+      pub record After-slots : Type 0 where
         pub before : Then2
-        pub entries : After-entries·own before
+        pub slots : After-slots·own before
 
       abbrev pub Need-slice-aggregate-feed : Type 0
-      Need-slice-aggregate-feed = (c : After-entries) → CountIs T18 10 11 (λ x. x) (λ u. 64) (m14 (c .before) (c .entries .given))
+      Need-slice-aggregate-feed = (c : After-slots) → CountIs T18 10 11 (λ x. x) (λ u. 64) (m14 (c .before) (c .slots .given))
 
       abbrev m15 : (before : Then2) → (given : s13 (before .before .before .before .before .before .before .before .blocks) .gives (m13 (before .before))) → Mo T19
       m15 = λ before given. s14 .next (m14 before given)
 
       abbrev pub Need-item-of-requires : Type 0
-      Need-item-of-requires = (c : After-entries) → s15 .asks (m15 (c .before) (c .entries .given))
+      Need-item-of-requires = (c : After-slots) → s15 .asks (m15 (c .before) (c .slots .given))
 
-      abbrev m16 : (before : After-entries) → (given : s15 .gives (m15 (before .before) (before .entries .given))) → Mo T20
-      m16 = λ before given. s15 .next (m15 (before .before) (before .entries .given)) given
+      abbrev m16 : (before : After-slots) → (given : s15 .gives (m15 (before .before) (before .slots .given))) → Mo T20
+      m16 = λ before given. s15 .next (m15 (before .before) (before .slots .given)) given
 
-      module _ (before· : After-entries) where
+      module _ (before· : After-slots) where
         abbrev After-item-of·own : Type 0
-        After-item-of·own = Called ps·2 r·2 (claims· .5) T19 args·1 (m15 (before· .before) (before· .entries .given))
+        After-item-of·own = Called ps·2 r·2 (claims· .5) T19 args·1 (m15 (before· .before) (before· .slots .given))
 
       pub record After-item-of : Type 0 where
-        pub before : After-entries
+        pub before : After-slots
         pub item-of : After-item-of·own before
 
-      abbrev After-item-of·gave : (c : After-item-of) → s15 .gives (m15 (c .before .before) (c .before .entries .given))
+      abbrev After-item-of·gave : (c : After-item-of) → s15 .gives (m15 (c .before .before) (c .before .slots .given))
       After-item-of·gave = λ c. gave (c .item-of)
 
       abbrev pub Need-profile-of-requires : Type 0
@@ -1077,12 +1077,12 @@ module _ (claims· : Claims) where
       m21 = λ before given. s21 .next (m20 (before .before) (After-feed·gave before)) given
 
       module _ (before· : After-feed) where
-        pub record After-entries2·own : Type 0 where
+        pub record After-slots2·own : Type 0 where
           pub given : s21 .gives (m20 (before· .before) (After-feed·gave before·))
 
-      pub record After-entries2 : Type 0 where
+      pub record After-slots2 : Type 0 where
         pub before : After-feed
-        pub entries2 : After-entries2·own before
+        pub slots2 : After-slots2·own before
 
       module _ (before· : Then1) where
         pub record Else2·own : Type 0 where
@@ -1096,34 +1096,34 @@ module _ (claims· : Claims) where
       m23 = λ before given. s25 (before .before .before .before .before .before .before .before .blocks) .next (m13 (before .before)) given
 
       module _ (before· : Else2) where
-        pub record After-entries3·own : Type 0 where
+        pub record After-slots3·own : Type 0 where
           pub given : s25 (before· .before .before .before .before .before .before .before .blocks) .gives (m13 (before· .before))
 
-      pub record After-entries3 : Type 0 where
+      pub record After-slots3 : Type 0 where
         pub before : Else2
-        pub entries3 : After-entries3·own before
+        pub slots3 : After-slots3·own before
 
       abbrev pub Need-slice-aggregate-feed-sound : Type 0
-      Need-slice-aggregate-feed-sound = (c : After-entries3) → CountIs T30 14 15 (λ x. x) (λ u. 64) (m23 (c .before) (c .entries3 .given))
+      Need-slice-aggregate-feed-sound = (c : After-slots3) → CountIs T30 14 15 (λ x. x) (λ u. 64) (m23 (c .before) (c .slots3 .given))
 
       abbrev m24 : (before : Else2) → (given : s25 (before .before .before .before .before .before .before .before .blocks) .gives (m13 (before .before))) → Mo T31
       m24 = λ before given. s26 .next (m23 before given)
 
       abbrev pub Need-item-of-requires-2 : Type 0
-      Need-item-of-requires-2 = (c : After-entries3) → s27 .asks (m24 (c .before) (c .entries3 .given))
+      Need-item-of-requires-2 = (c : After-slots3) → s27 .asks (m24 (c .before) (c .slots3 .given))
 
-      abbrev m25 : (before : After-entries3) → (given : s27 .gives (m24 (before .before) (before .entries3 .given))) → Mo T32
-      m25 = λ before given. s27 .next (m24 (before .before) (before .entries3 .given)) given
+      abbrev m25 : (before : After-slots3) → (given : s27 .gives (m24 (before .before) (before .slots3 .given))) → Mo T32
+      m25 = λ before given. s27 .next (m24 (before .before) (before .slots3 .given)) given
 
-      module _ (before· : After-entries3) where
+      module _ (before· : After-slots3) where
         abbrev After-item-of2·own : Type 0
-        After-item-of2·own = Called ps·2 r·2 (claims· .5) T31 args·4 (m24 (before· .before) (before· .entries3 .given))
+        After-item-of2·own = Called ps·2 r·2 (claims· .5) T31 args·4 (m24 (before· .before) (before· .slots3 .given))
 
       pub record After-item-of2 : Type 0 where
-        pub before : After-entries3
+        pub before : After-slots3
         pub item-of2 : After-item-of2·own before
 
-      abbrev After-item-of2·gave : (c : After-item-of2) → s27 .gives (m24 (c .before .before) (c .before .entries3 .given))
+      abbrev After-item-of2·gave : (c : After-item-of2) → s27 .gives (m24 (c .before .before) (c .before .slots3 .given))
       After-item-of2·gave = λ c. gave (c .item-of2)
 
       abbrev pub Need-profile-of-requires-2 : Type 0
@@ -1164,47 +1164,47 @@ module _ (claims· : Claims) where
       m30 = λ before given. s33 .next (m29 (before .before) (After-feed-sound·gave before)) given
 
       module _ (before· : After-feed-sound) where
-        pub record After-entries4·own : Type 0 where
+        pub record After-slots4·own : Type 0 where
           pub given : s33 .gives (m29 (before· .before) (After-feed-sound·gave before·))
 
-      pub record After-entries4 : Type 0 where
+      pub record After-slots4 : Type 0 where
         pub before : After-feed-sound
-        pub entries4 : After-entries4·own before
+        pub slots4 : After-slots4·own before
 
-      abbrev m31 : (before : Then1) → (entries : arrF Elem.row 64 0 .Mod) → (a : whole Answer·row .Mod) → Mo T15
-      m31 = λ before entries a. set 17 en·29 tt (setRow 16 en·24 (setRow 15 en·7 (setRow 14 en·3 (setRow 13 en·6 (setRow 12 en·4 (setRow 11 en·8 (setRow 10 en·2 (setRow 9 en·16 (setRow 8 en·0 (setRow 3 en·9 (T9 .locals))))))))))) (set 16 en·24 tt (setRow 15 en·7 (setRow 14 en·3 (setRow 13 en·6 (setRow 12 en·4 (setRow 11 en·8 (setRow 10 en·2 (setRow 9 en·16 (setRow 8 en·0 (setRow 3 en·9 (T9 .locals)))))))))) (set 15 en·7 tt (setRow 14 en·3 (setRow 13 en·6 (setRow 12 en·4 (setRow 11 en·8 (setRow 10 en·2 (setRow 9 en·16 (setRow 8 en·0 (setRow 3 en·9 (T9 .locals))))))))) (set 14 en·3 tt (setRow 13 en·6 (setRow 12 en·4 (setRow 11 en·8 (setRow 10 en·2 (setRow 9 en·16 (setRow 8 en·0 (setRow 3 en·9 (T9 .locals)))))))) (set 13 en·6 tt (setRow 12 en·4 (setRow 11 en·8 (setRow 10 en·2 (setRow 9 en·16 (setRow 8 en·0 (setRow 3 en·9 (T9 .locals))))))) (set 12 en·4 tt (setRow 11 en·8 (setRow 10 en·2 (setRow 9 en·16 (setRow 8 en·0 (setRow 3 en·9 (T9 .locals)))))) (set 11 en·8 tt (setRow 10 en·2 (setRow 9 en·16 (setRow 8 en·0 (setRow 3 en·9 (T9 .locals))))) (set 10 en·2 tt (setRow 9 en·16 (setRow 8 en·0 (setRow 3 en·9 (T9 .locals)))) (set 9 en·16 a (setRow 8 en·0 (setRow 3 en·9 (T9 .locals))) (set 8 en·0 tt (setRow 3 en·9 (T9 .locals)) (set 3 en·9 entries (T9 .locals) (m12 (before .before))))))))))))
+      abbrev m31 : (before : Then1) → (slots : arrF Elem.row 64 0 .Mod) → (a : whole Answer·row .Mod) → Mo T15
+      m31 = λ before slots a. set 17 en·29 tt (setRow 16 en·24 (setRow 15 en·7 (setRow 14 en·3 (setRow 13 en·6 (setRow 12 en·4 (setRow 11 en·8 (setRow 10 en·2 (setRow 9 en·16 (setRow 8 en·0 (setRow 3 en·9 (T9 .locals))))))))))) (set 16 en·24 tt (setRow 15 en·7 (setRow 14 en·3 (setRow 13 en·6 (setRow 12 en·4 (setRow 11 en·8 (setRow 10 en·2 (setRow 9 en·16 (setRow 8 en·0 (setRow 3 en·9 (T9 .locals)))))))))) (set 15 en·7 tt (setRow 14 en·3 (setRow 13 en·6 (setRow 12 en·4 (setRow 11 en·8 (setRow 10 en·2 (setRow 9 en·16 (setRow 8 en·0 (setRow 3 en·9 (T9 .locals))))))))) (set 14 en·3 tt (setRow 13 en·6 (setRow 12 en·4 (setRow 11 en·8 (setRow 10 en·2 (setRow 9 en·16 (setRow 8 en·0 (setRow 3 en·9 (T9 .locals)))))))) (set 13 en·6 tt (setRow 12 en·4 (setRow 11 en·8 (setRow 10 en·2 (setRow 9 en·16 (setRow 8 en·0 (setRow 3 en·9 (T9 .locals))))))) (set 12 en·4 tt (setRow 11 en·8 (setRow 10 en·2 (setRow 9 en·16 (setRow 8 en·0 (setRow 3 en·9 (T9 .locals)))))) (set 11 en·8 tt (setRow 10 en·2 (setRow 9 en·16 (setRow 8 en·0 (setRow 3 en·9 (T9 .locals))))) (set 10 en·2 tt (setRow 9 en·16 (setRow 8 en·0 (setRow 3 en·9 (T9 .locals)))) (set 9 en·16 a (setRow 8 en·0 (setRow 3 en·9 (T9 .locals))) (set 8 en·0 tt (setRow 3 en·9 (T9 .locals)) (set 3 en·9 slots (T9 .locals) (m12 (before .before))))))))))))
 
       module _ (before· : Then1) where
         pub record Joined2·own : Type 0 where
-          pub entries : arrF Elem.row 64 0 .Mod
+          pub slots : arrF Elem.row 64 0 .Mod
           pub a : whole Answer·row .Mod
-          pub came : Logic._⊎_ ((if2 : Then2·own before·) × (entries' : After-entries·own record { before = before·; if2 = if2 }) × (item-of : After-item-of·own record { before = record { before = before·; if2 = if2 }; entries = entries' }) × (profile-of : After-profile-of·own record { before = record { before = record { before = before·; if2 = if2 }; entries = entries' }; item-of = item-of }) × (feed : After-feed·own record { before = record { before = record { before = record { before = before·; if2 = if2 }; entries = entries' }; item-of = item-of }; profile-of = profile-of }) × (entries2 : After-entries2·own record { before = record { before = record { before = record { before = record { before = before·; if2 = if2 }; entries = entries' }; item-of = item-of }; profile-of = profile-of }; feed = feed }) × _≡_ entries (get 3 (T15 .locals) (m21 record { before = record { before = record { before = record { before = record { before = before·; if2 = if2 }; entries = entries' }; item-of = item-of }; profile-of = profile-of }; feed = feed } (entries2 .given))) × _≡_ a (get 9 (T15 .locals) (m21 record { before = record { before = record { before = record { before = record { before = before·; if2 = if2 }; entries = entries' }; item-of = item-of }; profile-of = profile-of }; feed = feed } (entries2 .given)))) ((if2 : Else2·own before·) × (entries3 : After-entries3·own record { before = before·; if2 = if2 }) × (item-of2 : After-item-of2·own record { before = record { before = before·; if2 = if2 }; entries3 = entries3 }) × (profile-of2 : After-profile-of2·own record { before = record { before = record { before = before·; if2 = if2 }; entries3 = entries3 }; item-of2 = item-of2 }) × (feed-sound : After-feed-sound·own record { before = record { before = record { before = record { before = before·; if2 = if2 }; entries3 = entries3 }; item-of2 = item-of2 }; profile-of2 = profile-of2 }) × (entries4 : After-entries4·own record { before = record { before = record { before = record { before = record { before = before·; if2 = if2 }; entries3 = entries3 }; item-of2 = item-of2 }; profile-of2 = profile-of2 }; feed-sound = feed-sound }) × _≡_ entries (get 3 (T15 .locals) (m30 record { before = record { before = record { before = record { before = record { before = before·; if2 = if2 }; entries3 = entries3 }; item-of2 = item-of2 }; profile-of2 = profile-of2 }; feed-sound = feed-sound } (entries4 .given))) × _≡_ a (get 9 (T15 .locals) (m30 record { before = record { before = record { before = record { before = record { before = before·; if2 = if2 }; entries3 = entries3 }; item-of2 = item-of2 }; profile-of2 = profile-of2 }; feed-sound = feed-sound } (entries4 .given))))
+          pub came : Logic._⊎_ ((if2 : Then2·own before·) × (slots' : After-slots·own record { before = before·; if2 = if2 }) × (item-of : After-item-of·own record { before = record { before = before·; if2 = if2 }; slots = slots' }) × (profile-of : After-profile-of·own record { before = record { before = record { before = before·; if2 = if2 }; slots = slots' }; item-of = item-of }) × (feed : After-feed·own record { before = record { before = record { before = record { before = before·; if2 = if2 }; slots = slots' }; item-of = item-of }; profile-of = profile-of }) × (slots2 : After-slots2·own record { before = record { before = record { before = record { before = record { before = before·; if2 = if2 }; slots = slots' }; item-of = item-of }; profile-of = profile-of }; feed = feed }) × _≡_ slots (get 3 (T15 .locals) (m21 record { before = record { before = record { before = record { before = record { before = before·; if2 = if2 }; slots = slots' }; item-of = item-of }; profile-of = profile-of }; feed = feed } (slots2 .given))) × _≡_ a (get 9 (T15 .locals) (m21 record { before = record { before = record { before = record { before = record { before = before·; if2 = if2 }; slots = slots' }; item-of = item-of }; profile-of = profile-of }; feed = feed } (slots2 .given)))) ((if2 : Else2·own before·) × (slots3 : After-slots3·own record { before = before·; if2 = if2 }) × (item-of2 : After-item-of2·own record { before = record { before = before·; if2 = if2 }; slots3 = slots3 }) × (profile-of2 : After-profile-of2·own record { before = record { before = record { before = before·; if2 = if2 }; slots3 = slots3 }; item-of2 = item-of2 }) × (feed-sound : After-feed-sound·own record { before = record { before = record { before = record { before = before·; if2 = if2 }; slots3 = slots3 }; item-of2 = item-of2 }; profile-of2 = profile-of2 }) × (slots4 : After-slots4·own record { before = record { before = record { before = record { before = record { before = before·; if2 = if2 }; slots3 = slots3 }; item-of2 = item-of2 }; profile-of2 = profile-of2 }; feed-sound = feed-sound }) × _≡_ slots (get 3 (T15 .locals) (m30 record { before = record { before = record { before = record { before = record { before = before·; if2 = if2 }; slots3 = slots3 }; item-of2 = item-of2 }; profile-of2 = profile-of2 }; feed-sound = feed-sound } (slots4 .given))) × _≡_ a (get 9 (T15 .locals) (m30 record { before = record { before = record { before = record { before = record { before = before·; if2 = if2 }; slots3 = slots3 }; item-of2 = item-of2 }; profile-of2 = profile-of2 }; feed-sound = feed-sound } (slots4 .given))))
 
       pub record Joined2 : Type 0 where
         pub before : Then1
         pub if2 : Joined2·own before
 
-      abbrev m33 : (before : Then1) → (entries : arrF Elem.row 64 0 .Mod) → (a : whole Answer·row .Mod) → Mo T41
-      m33 = λ before entries a. s36 (s35 (m31 before entries a))
+      abbrev m33 : (before : Then1) → (slots : arrF Elem.row 64 0 .Mod) → (a : whole Answer·row .Mod) → Mo T41
+      m33 = λ before slots a. s36 (s35 (m31 before slots a))
 
       abbrev pub Need-advance-requires : Type 0
-      Need-advance-requires = (c : Joined2) → s37 .asks (m33 (c .before) (c .if2 .entries) (c .if2 .a))
+      Need-advance-requires = (c : Joined2) → s37 .asks (m33 (c .before) (c .if2 .slots) (c .if2 .a))
 
-      abbrev m34 : (before : Joined2) → (given : s37 .gives (m33 (before .before) (before .if2 .entries) (before .if2 .a))) → Mo T42
-      m34 = λ before given. s37 .next (m33 (before .before) (before .if2 .entries) (before .if2 .a)) given
+      abbrev m34 : (before : Joined2) → (given : s37 .gives (m33 (before .before) (before .if2 .slots) (before .if2 .a))) → Mo T42
+      m34 = λ before given. s37 .next (m33 (before .before) (before .if2 .slots) (before .if2 .a)) given
 
       pub record After-advance : Type 0 where
         pub before : Joined2
-        pub advance : Called ps·6 r (claims· .13) T41 args·7 (m33 (before .before) (before .if2 .entries) (before .if2 .a))
+        pub advance : Called ps·6 r (claims· .13) T41 args·7 (m33 (before .before) (before .if2 .slots) (before .if2 .a))
 
-      abbrev After-advance·gave : (c : After-advance) → s37 .gives (m33 (c .before .before) (c .before .if2 .entries) (c .before .if2 .a))
+      abbrev After-advance·gave : (c : After-advance) → s37 .gives (m33 (c .before .before) (c .before .if2 .slots) (c .before .if2 .a))
       After-advance·gave = λ c. gave (c .advance)
 
-      abbrev m38 : (before : Joined2) → (given : s37 .gives (m33 (before .before) (before .if2 .entries) (before .if2 .a))) → Mo T6
+      abbrev m38 : (before : Joined2) → (given : s37 .gives (m33 (before .before) (before .if2 .slots) (before .if2 .a))) → Mo T6
       m38 = λ before given. s41 (s40 (s39 (s38 (m34 before given))))
 
       abbrev pub Need-loop-less : Type 0
-      Need-loop-less = (c : After-advance) → _<_ (left·0 (m5 (c .before .before .before .before .before .before) (After-start·gave (c .before .before .before .before .before))) (turn·0 (m38 (c .before) (After-advance·gave c)))) (left·0 (m5 (c .before .before .before .before .before .before) (After-start·gave (c .before .before .before .before .before))) ((c .before .before .before .before .loop .entries), (c .before .before .before .before .loop .s)))
+      Need-loop-less = (c : After-advance) → _<_ (left·0 (m5 (c .before .before .before .before .before .before) (After-start·gave (c .before .before .before .before .before))) (turn·0 (m38 (c .before) (After-advance·gave c)))) (left·0 (m5 (c .before .before .before .before .before .before) (After-start·gave (c .before .before .before .before .before))) ((c .before .before .before .before .loop .slots), (c .before .before .before .before .loop .s)))
 
       abbrev pub Need-loop-again : Type 0
       Need-loop-again = (c : After-advance) → held·0 (m5 (c .before .before .before .before .before .before) (After-start·gave (c .before .before .before .before .before))) (turn·0 (m38 (c .before) (After-advance·gave c)))
@@ -1213,30 +1213,30 @@ module _ (claims· : Claims) where
       Need-returns = (c : Else1) → Returns (c .before .before .before .before .before .before) (s44 (s43 (s42 (s9 (s8 (m8 ((c .before) .before) ((c .before) .struct-known .given)))))))
 
       module _ (fresh-requires : Need-fresh-requires) (start-requires : Need-start-requires) (loop-holds : Need-loop-holds) (slice-aggregate-feed : Need-slice-aggregate-feed) (item-of-requires : Need-item-of-requires) (profile-of-requires : Need-profile-of-requires) (feed-requires : Need-feed-requires) (slice-aggregate-feed-sound : Need-slice-aggregate-feed-sound) (item-of-requires-2 : Need-item-of-requires-2) (profile-of-requires-2 : Need-profile-of-requires-2) (feed-sound-requires : Need-feed-sound-requires) (advance-requires : Need-advance-requires) (loop-less : Need-loop-less) (loop-again : Need-loop-again) (returns : Need-returns) where
-        lay11 : (c : After-advance) → at23 (W3 (c .before .before .before .before .before) (c .before .before .before .before .loop .entries) (c .before .before .before .before .loop .s)) (m34 (c .before) (After-advance·gave c))
+        lay11 : (c : After-advance) → at23 (W3 (c .before .before .before .before .before) (c .before .before .before .before .loop .slots) (c .before .before .before .before .loop .s)) (m34 (c .before) (After-advance·gave c))
         lay11 = λ c. (left·0 (m5 (c .before .before .before .before .before .before) (After-start·gave (c .before .before .before .before .before))) (turn·0 (m38 (c .before) (After-advance·gave c))), loop-less c, ((turn·0 (m38 (c .before) (After-advance·gave c))), refl {a = m38 (c .before) (After-advance·gave c)}, loop-again c, refl {a = left·0 (m5 (c .before .before .before .before .before .before) (After-start·gave (c .before .before .before .before .before))) (turn·0 (m38 (c .before) (After-advance·gave c)))}))
 
-        lay10 : (c : Joined2) → at26 (c .before .before .before .before .before .before .before .blocks) (W3 (c .before .before .before .before) (c .before .before .before .loop .entries) (c .before .before .before .loop .s)) (m31 (c .before) (c .if2 .entries) (c .if2 .a))
+        lay10 : (c : Joined2) → at26 (c .before .before .before .before .before .before .before .blocks) (W3 (c .before .before .before .before) (c .before .before .before .loop .slots) (c .before .before .before .loop .s)) (m31 (c .before) (c .if2 .slots) (c .if2 .a))
         unfolding at26
         lay10 = λ c. (advance-requires c, λ g. lay11 record { before = c; advance = called g })
 
         lay9 : (c : After-profile-of2) → at13 (W5 (c .before .before .before .before .before)) (m26 (c .before) (After-profile-of2·gave c))
-        lay9 = λ c. (feed-sound-requires c, λ g. (refl, λ g'. lay10 record { before = record { before = c .before .before .before .before .before; if1 = c .before .before .before .before .if1 }; if2 = record { entries = get 3 (T15 .locals) (m30 record { before = c; feed-sound = called g } g'); a = get 9 (T15 .locals) (m30 record { before = c; feed-sound = called g } g'); came = Logic.inr (c .before .before .before .if2, c .before .before .entries3, c .before .item-of2, c .profile-of2, called g, record { given = g' }, refl {a = get 3 (T15 .locals) (m30 record { before = c; feed-sound = called g } g')}, refl {a = get 9 (T15 .locals) (m30 record { before = c; feed-sound = called g } g')}) } }))
+        lay9 = λ c. (feed-sound-requires c, λ g. (refl, λ g'. lay10 record { before = record { before = c .before .before .before .before .before; if1 = c .before .before .before .before .if1 }; if2 = record { slots = get 3 (T15 .locals) (m30 record { before = c; feed-sound = called g } g'); a = get 9 (T15 .locals) (m30 record { before = c; feed-sound = called g } g'); came = Logic.inr (c .before .before .before .if2, c .before .before .slots3, c .before .item-of2, c .profile-of2, called g, record { given = g' }, refl {a = get 3 (T15 .locals) (m30 record { before = c; feed-sound = called g } g')}, refl {a = get 9 (T15 .locals) (m30 record { before = c; feed-sound = called g } g')}) } }))
 
         lay8 : (c : After-item-of2) → at14 (W5 (c .before .before .before .before)) (m25 (c .before) (After-item-of2·gave c))
         lay8 = λ c. (profile-of-requires-2 c, λ g. lay9 record { before = c; profile-of2 = called g })
 
         lay7 : (c : After-profile-of) → at6 (W5 (c .before .before .before .before .before)) (m17 (c .before) (After-profile-of·gave c))
-        lay7 = λ c. (feed-requires c, λ g. (refl, λ g'. lay10 record { before = record { before = c .before .before .before .before .before; if1 = c .before .before .before .before .if1 }; if2 = record { entries = get 3 (T15 .locals) (m21 record { before = c; feed = called g } g'); a = get 9 (T15 .locals) (m21 record { before = c; feed = called g } g'); came = Logic.inl (c .before .before .before .if2, c .before .before .entries, c .before .item-of, c .profile-of, called g, record { given = g' }, refl {a = get 3 (T15 .locals) (m21 record { before = c; feed = called g } g')}, refl {a = get 9 (T15 .locals) (m21 record { before = c; feed = called g } g')}) } }))
+        lay7 = λ c. (feed-requires c, λ g. (refl, λ g'. lay10 record { before = record { before = c .before .before .before .before .before; if1 = c .before .before .before .before .if1 }; if2 = record { slots = get 3 (T15 .locals) (m21 record { before = c; feed = called g } g'); a = get 9 (T15 .locals) (m21 record { before = c; feed = called g } g'); came = Logic.inl (c .before .before .before .if2, c .before .before .slots, c .before .item-of, c .profile-of, called g, record { given = g' }, refl {a = get 3 (T15 .locals) (m21 record { before = c; feed = called g } g')}, refl {a = get 9 (T15 .locals) (m21 record { before = c; feed = called g } g')}) } }))
 
         lay6 : (c : After-item-of) → at7 (W5 (c .before .before .before .before)) (m16 (c .before) (After-item-of·gave c))
         lay6 = λ c. (profile-of-requires c, λ g. lay7 record { before = c; profile-of = called g })
 
-        lay3 : (c : Then1) → at1 (wantNext T6 O3 (at28 ((c .before .before) .before .before .before .before .blocks) (W3 ((c .before .before) .before) ((c .before .before) .loop .entries) ((c .before .before) .loop .s))) (W3 ((c .before .before) .before) ((c .before .before) .loop .entries) ((c .before .before) .loop .s))) (m8 (c .before .before) (c .before .struct-known .given))
-        lay3 = λ c. (λ taken. λ g. (count-is T18 10 11 (λ x. x) (λ u. 64) (m14 record { before = c; if2 = record { taken = taken } } g) (slice-aggregate-feed record { before = record { before = c; if2 = record { taken = taken } }; entries = record { given = g } }), (item-of-requires record { before = record { before = c; if2 = record { taken = taken } }; entries = record { given = g } }, λ g'. lay6 record { before = record { before = record { before = c; if2 = record { taken = taken } }; entries = record { given = g } }; item-of = called g' })), λ left. λ g. (count-is T30 14 15 (λ x. x) (λ u. 64) (m23 record { before = c; if2 = record { left = left } } g) (slice-aggregate-feed-sound record { before = record { before = c; if2 = record { left = left } }; entries3 = record { given = g } }), (item-of-requires-2 record { before = record { before = c; if2 = record { left = left } }; entries3 = record { given = g } }, λ g''. lay8 record { before = record { before = record { before = c; if2 = record { left = left } }; entries3 = record { given = g } }; item-of2 = called g'' })))
+        lay3 : (c : Then1) → at1 (wantNext T6 O3 (at28 ((c .before .before) .before .before .before .before .blocks) (W3 ((c .before .before) .before) ((c .before .before) .loop .slots) ((c .before .before) .loop .s))) (W3 ((c .before .before) .before) ((c .before .before) .loop .slots) ((c .before .before) .loop .s))) (m8 (c .before .before) (c .before .struct-known .given))
+        lay3 = λ c. (λ taken. λ g. (count-is T18 10 11 (λ x. x) (λ u. 64) (m14 record { before = c; if2 = record { taken = taken } } g) (slice-aggregate-feed record { before = record { before = c; if2 = record { taken = taken } }; slots = record { given = g } }), (item-of-requires record { before = record { before = c; if2 = record { taken = taken } }; slots = record { given = g } }, λ g'. lay6 record { before = record { before = record { before = c; if2 = record { taken = taken } }; slots = record { given = g } }; item-of = called g' })), λ left. λ g. (count-is T30 14 15 (λ x. x) (λ u. 64) (m23 record { before = c; if2 = record { left = left } } g) (slice-aggregate-feed-sound record { before = record { before = c; if2 = record { left = left } }; slots3 = record { given = g } }), (item-of-requires-2 record { before = record { before = c; if2 = record { left = left } }; slots3 = record { given = g } }, λ g''. lay8 record { before = record { before = record { before = c; if2 = record { left = left } }; slots3 = record { given = g } }; item-of2 = called g'' })))
 
         lay2 : (c : After-start) → at38 (c .before .before .before .blocks) (Wanted (c .before .before .before)) (m5 (c .before) (After-start·gave c))
-        lay2 = λ c. (((turn·0 (m5 (c .before) (After-start·gave c))), refl {a = m5 (c .before) (After-start·gave c)}, loop-holds c), λ vs inv. λ g. (tt, (λ taken. lay3 record { before = record { before = record { before = c; loop = record { entries = vs .0; s = vs .1; inv = inv } }; struct-known = record { given = g } }; if1 = record { taken = Tests.ltb-true 0 (State.struct .as-values (get 4 (T6 .locals) (m7 record { before = c; loop = record { entries = vs .0; s = vs .1; inv = inv } } g)) .1 .1 .0) taken } }, λ left. ((refl, (tt, tt)), returns record { before = record { before = record { before = c; loop = record { entries = vs .0; s = vs .1; inv = inv } }; struct-known = record { given = g } }; if1 = record { left = Tests.ltb-false 0 (State.struct .as-values (get 4 (T6 .locals) (m7 record { before = c; loop = record { entries = vs .0; s = vs .1; inv = inv } } g)) .1 .1 .0) left } }))))
+        lay2 = λ c. (((turn·0 (m5 (c .before) (After-start·gave c))), refl {a = m5 (c .before) (After-start·gave c)}, loop-holds c), λ vs inv. λ g. (tt, (λ taken. lay3 record { before = record { before = record { before = c; loop = record { slots = vs .0; s = vs .1; inv = inv } }; struct-known = record { given = g } }; if1 = record { taken = Tests.ltb-true 0 (State.struct .as-values (get 4 (T6 .locals) (m7 record { before = c; loop = record { slots = vs .0; s = vs .1; inv = inv } } g)) .1 .1 .0) taken } }, λ left. ((refl, (tt, tt)), returns record { before = record { before = record { before = c; loop = record { slots = vs .0; s = vs .1; inv = inv } }; struct-known = record { given = g } }; if1 = record { left = Tests.ltb-false 0 (State.struct .as-values (get 4 (T6 .locals) (m7 record { before = c; loop = record { slots = vs .0; s = vs .1; inv = inv } } g)) .1 .1 .0) left } }))))
 
         lay1 : (c : After-fresh) → at41 (c .before .before .blocks) (Wanted (c .before .before)) (m2 (c .before) (After-fresh·gave c))
         lay1 = λ c. (start-requires c, λ g. lay2 record { before = c; start = called g })
@@ -1248,6 +1248,6 @@ module _ (claims· : Claims) where
           pub asked : (a : Dens κs ps) → (good : Kinds.GoodsP κs ps a) → (pre : Pre· κs a) → (bs : List ℕ) → Φ bs (Any.wantQ 1 ps r xs m κs qs a (Post· κs a)) (init 1 ps r xs m κs qs a)
           asked = λ a good pre bs. laid record { κs = κs; args = record { buf = a .0; checked = a .1 .0 }; blocks = bs; good = good; pre = pre }
 
-        module _ {M : Type 1} (𝓤 : URA M) (H : Wp.Heap 𝓤) (A : Atoms 𝓤) (W : Given 𝓤 H A) (𝓣 : Wp.Tables 𝓤 H) (known0 : Known 𝓤 H A W 𝓣 0 ps·0 r·0 (claims· .0) (claims· .1) "table::entry::fresh") (known1 : Known 𝓤 H A W 𝓣 1 ps·1 r (claims· .2) (claims· .3) "bench::start") (known2 : Known 𝓤 H A W 𝓣 1 ps·2 r·2 (claims· .4) (claims· .5) "bench::item_of") (known3 : Known 𝓤 H A W 𝓣 1 ps·1 r·2 (claims· .6) (claims· .7) "bench::profile_of") (known4 : Known 𝓤 H A W 𝓣 3 ps·4 r·4 (claims· .8) (claims· .9) "table::feed::feed") (known5 : Known 𝓤 H A W 𝓣 3 ps·4 r·4 (claims· .10) (claims· .11) "table::feed::feed_sound") (known6 : Known 𝓤 H A W 𝓣 1 ps·6 r (claims· .12) (claims· .13) "bench::advance") where
+        module _ {M : Type 1} (𝓤 : URA M) (H : Wp.Heap 𝓤) (A : Atoms 𝓤) (W : Given 𝓤 H A) (𝓣 : Wp.Tables 𝓤 H) (known0 : Known 𝓤 H A W 𝓣 0 ps·0 r·0 (claims· .0) (claims· .1) "table::slot::fresh") (known1 : Known 𝓤 H A W 𝓣 1 ps·1 r (claims· .2) (claims· .3) "bench::start") (known2 : Known 𝓤 H A W 𝓣 1 ps·2 r·2 (claims· .4) (claims· .5) "bench::item_of") (known3 : Known 𝓤 H A W 𝓣 1 ps·1 r·2 (claims· .6) (claims· .7) "bench::profile_of") (known4 : Known 𝓤 H A W 𝓣 3 ps·4 r·4 (claims· .8) (claims· .9) "table::feed::feed") (known5 : Known 𝓤 H A W 𝓣 3 ps·4 r·4 (claims· .10) (claims· .11) "table::feed::feed_sound") (known6 : Known 𝓤 H A W 𝓣 1 ps·6 r (claims· .12) (claims· .13) "bench::advance") where
           pub spec : Triple 𝓤 (Wp.WpFn 𝓤 H (𝓣 .C) (𝓣 .Λ) (fnOf 1 ps r xs m hs body)) (plainOf 𝓤 H A 1 ps r Pre· Post·)
           spec = t-fn-plain 𝓤 H A W 𝓣 1 ps r xs m hs body (λ κs qs bs. Φ bs) (λ κs qs bs bd. typed κs qs 𝓤 H A W 𝓣 (known0, known1, known2, known3, known4, known5, known6) bs bd) Pre· Post· asked

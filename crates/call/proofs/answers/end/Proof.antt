@@ -1,3 +1,4 @@
+-- `call::answers::end` meets its contract: `report_of` reports the charge of each leg, and the blank record remains.
 use borrow.Author.Needs.{needs}
 use Rattle.call.proofs.answers.end.Statement.{statement}
 use Rattle.call.proofs.answers.end.Tie as tie

@@ -1,3 +1,4 @@
+-- `call::answers::go_on_quietly` meets its contract: `go_on` with no report and no deadline.
 use borrow.Author.Needs.{needs}
 use Rattle.call.proofs.answers.go_on_quietly.Statement.{statement}
 use Rattle.call.proofs.answers.go_on_quietly.Tie as tie

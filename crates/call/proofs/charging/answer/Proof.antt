@@ -1,3 +1,4 @@
+-- `call::charging::answer` meets its contract: an arm for each charge; only one that waits is changed.
 use borrow.Author.Needs.{needs}
 use Rattle.call.proofs.charging.answer.Statement.{statement}
 use Rattle.call.proofs.charging.answer.Tie as tie

@@ -1,3 +1,4 @@
+-- `call::charging::elapsed` meets its contract: each way out is the smaller of the time since the start and the period, by arithmetic.
 use native.Mathlib.Omega.{arith}
 use borrow.Author.Needs.{needs}
 use Rattle.call.proofs.Laws.{same-tenths}

@@ -1,3 +1,4 @@
+-- `call::charging::grant` meets its contract: the branch is the definition's test of the stage.
 use mathlib.Core.Path.{sym, _∙_}
 use borrow.Author.Needs.{needs}
 use Rattle.call.proofs.charging.grant.Statement.{statement}

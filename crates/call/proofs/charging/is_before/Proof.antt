@@ -1,3 +1,4 @@
+-- `call::charging::is_before` meets its contract: from the start on the difference tells what the sum does (`ltb-shift`); an earlier time is before the sum.
 use mathlib.Core.Path.{sym}
 use Prim.Native.Nat.{_+_}
 use native.Mathlib.Omega.{arith}

@@ -1,3 +1,4 @@
+-- `call::charging::report_of` meets its contract: an arm for each charge; one that runs is reported by `elapsed`.
 use borrow.Author.Needs.{needs}
 use Rattle.call.proofs.charging.report_of.Statement.{statement}
 use Rattle.call.proofs.charging.report_of.Tie as tie

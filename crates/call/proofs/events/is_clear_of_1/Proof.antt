@@ -1,3 +1,4 @@
+-- `call::events::is_clear_of_1` meets its contract: the two roles are told by `is_role`.
 use borrow.Author.Needs.{needs}
 use Rattle.call.proofs.events.is_clear_of_1.Statement.{statement}
 use Rattle.call.proofs.events.is_clear_of_1.Tie as tie

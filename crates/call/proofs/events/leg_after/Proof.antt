@@ -1,3 +1,4 @@
+-- `call::events::leg_after` meets its contract: a return for each case: the leg leaves, the role is Answer, neither.
 use mathlib.Core.Path.{sym, _∙_}
 use borrow.Author.Needs.{needs}
 use Rattle.call.proofs.events.leg_after.Statement.{statement}

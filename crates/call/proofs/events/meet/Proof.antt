@@ -1,3 +1,4 @@
+-- `call::events::meet` meets its contract: `by_mode` says whether the call is over: then `end` answers, else `go_on` with the definition's record and reports.
 use mathlib.Core.Path.{sym, ap, _∙_}
 use borrow.Author.Needs.{needs}
 use Rattle.call.specs.Events.{met}
@@ -18,7 +19,7 @@ returns-2 c =
     let l = a .before .before .before in
     let b = l .before .before in
     let m = b .before in
-    rw (c .go-on .ensures, c .before .place .ensures, c .before .before .stage-after .ensures, a .disarm .ensures, l .leg-after2 .ensures, l .before .leg-after .ensures, m .by-mode .ensures, ← m .before .mode-at .ensures, sym (ap (λ x. x .over) (m .by-mode .ensures)) ∙ b .if1 .left)
+    rw (c .go-on .ensures, c .before .with-stage-and-hold .ensures, c .before .before .stage-after .ensures, a .disarm .ensures, l .leg-after2 .ensures, l .before .leg-after .ensures, m .by-mode .ensures, ← m .before .mode-at .ensures, sym (ap (λ x. x .over) (m .by-mode .ensures)) ∙ b .if1 .left)
 
 pub meet-spec : {M : Type 1} → statement M
 meet-spec =

@@ -1,3 +1,4 @@
+-- `call::operations::abort` meets its contract: a return for each case: release, held, neither; each with all dropped first.
 use mathlib.Core.Path.{sym, _∙_}
 use borrow.Author.Needs.{needs}
 use Rattle.call.specs.Operations.{aborted}

@@ -1,3 +1,4 @@
+-- `call::operations::apply_charging` meets its contract: `grant` gives the charge, `charge` stores it, and the answer is quiet.
 use borrow.Author.Needs.{needs}
 use Rattle.call.proofs.operations.apply_charging.Statement.{statement}
 use Rattle.call.proofs.operations.apply_charging.Tie as tie

@@ -1,3 +1,4 @@
+-- `call::operations::can_connect` meets its contract: the hold and the presence of both legs are tested as in the definition.
 use borrow.Author.Needs.{needs}
 use Rattle.call.proofs.operations.can_connect.Statement.{statement}
 use Rattle.call.proofs.operations.can_connect.Tie as tie

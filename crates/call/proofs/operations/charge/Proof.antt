@@ -1,3 +1,4 @@
+-- `call::operations::charge` meets its contract: the leg keeps its presence, and its charge and the last time are replaced.
 use borrow.Author.Needs.{needs}
 use Rattle.call.proofs.operations.charge.Statement.{statement}
 use Rattle.call.proofs.operations.charge.Tie as tie

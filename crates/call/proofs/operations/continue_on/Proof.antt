@@ -1,3 +1,4 @@
+-- `call::operations::continue_on` meets its contract: a return for each case: routed from the trigger, resumed, or over as a leg is absent.
 use mathlib.Core.Path.{sym, _∙_}
 use borrow.Author.Needs.{needs}
 use Rattle.call.specs.Operations.{continued}
@@ -7,14 +8,16 @@ use Rattle.call.proofs.operations.continue_on.Tie as tie
 returns : tie.Need-returns
 unfolding continued
 returns c =
-    let b = c .before .before .before .before in
-    rw (c .route .ensures, c .before .before .before .place .ensures, ← b .before .before .is-present .ensures, ← b .before .is-present2 .ensures, b .if1 .taken, sym (c .before .before .is-trigger .ensures) ∙ c .before .if2 .taken)
+    let s = c .before .before .before in
+    let b = s .before in
+    rw (c .route .ensures, s .with-stage-and-hold .ensures, ← b .before .before .is-present .ensures, ← b .before .is-present2 .ensures, b .if1 .taken, sym (c .before .before .is-trigger .ensures) ∙ c .before .if2 .taken)
 
 returns-2 : tie.Need-returns-2
 unfolding continued
 returns-2 c =
-    let b = c .before .before .before .before in
-    rw (c .go-on-quietly .ensures, c .before .before .before .place .ensures, ← b .before .before .is-present .ensures, ← b .before .is-present2 .ensures, b .if1 .taken, sym (c .before .before .is-trigger .ensures) ∙ c .before .if2 .left)
+    let s = c .before .before .before in
+    let b = s .before in
+    rw (c .go-on-quietly .ensures, s .with-stage-and-hold .ensures, ← b .before .before .is-present .ensures, ← b .before .is-present2 .ensures, b .if1 .taken, sym (c .before .before .is-trigger .ensures) ∙ c .before .if2 .left)
 
 returns-3 : tie.Need-returns-3
 unfolding continued

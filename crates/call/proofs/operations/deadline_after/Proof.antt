@@ -1,3 +1,4 @@
+-- `call::operations::deadline_after` meets its contract: the sum fits, as the time is below the clock's end and a timer has 32 bits.
 use mathlib.Core.Path.{ap}
 use native.Mathlib.Omega.{arith}
 use borrow.Author.Needs.{needs}

@@ -1,3 +1,4 @@
+-- `call::operations::drop_all` meets its contract: each field is the definition's, the armings by `no_armings`.
 use borrow.Author.Needs.{needs}
 use Rattle.call.proofs.operations.drop_all.Statement.{statement}
 use Rattle.call.proofs.operations.drop_all.Tie as tie

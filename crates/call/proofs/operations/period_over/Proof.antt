@@ -1,3 +1,4 @@
+-- `call::operations::period_over` meets its contract: the leg's charge is reported by `report_of` and removed by `charge`.
 use borrow.Author.Needs.{needs}
 use Rattle.call.proofs.operations.period_over.Statement.{statement}
 use Rattle.call.proofs.operations.period_over.Tie as tie

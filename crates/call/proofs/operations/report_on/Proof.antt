@@ -1,3 +1,4 @@
+-- `call::operations::report_on` meets its contract: an arm for each leg, with the report in its place.
 use borrow.Author.Needs.{needs}
 use Rattle.call.proofs.operations.report_on.Statement.{statement}
 use Rattle.call.proofs.operations.report_on.Tie as tie

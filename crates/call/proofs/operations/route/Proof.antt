@@ -1,3 +1,4 @@
+-- `call::operations::route` meets its contract: the deadline goes by `route_timer`'s timer, and the record goes on with no kept timer.
 use borrow.Author.Needs.{needs}
 use Rattle.call.proofs.operations.route.Statement.{statement}
 use Rattle.call.proofs.operations.route.Tie as tie

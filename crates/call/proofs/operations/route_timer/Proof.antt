@@ -1,3 +1,4 @@
+-- `call::operations::route_timer` meets its contract: the branch is the definition's test for 0.
 use borrow.Author.Tests.{ne-eqb}
 use Rattle.call.proofs.operations.route_timer.Statement.{statement}
 use Rattle.call.proofs.operations.route_timer.Tie as tie

@@ -1,3 +1,4 @@
+-- `call::points::role_on_1` meets its contract: each number of the leg names its role, and no other number names one.
 use borrow.Author.Tests.{ne-eqb}
 use Rattle.call.proofs.points.role_on_1.Statement.{statement}
 use Rattle.call.proofs.points.role_on_1.Tie as tie

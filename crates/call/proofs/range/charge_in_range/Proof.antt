@@ -1,3 +1,4 @@
+-- `call::range::charge_in_range` meets its contract: an arm for each charge; the period and the start are tested as in the definition.
 use borrow.Author.Needs.{needs}
 use Rattle.call.proofs.range.charge_in_range.Statement.{statement}
 use Rattle.call.proofs.range.charge_in_range.Tie as tie

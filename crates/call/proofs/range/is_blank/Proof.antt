@@ -1,4 +1,4 @@
--- `range::is_blank` meets its contract.
+-- `call::range::is_blank` meets its contract: each of the ten fields is tested as in the definition.
 use borrow.Author.Needs.{needs}
 use Rattle.call.specs.Range.{isBlank}
 use Rattle.call.proofs.range.is_blank.Statement.{statement}

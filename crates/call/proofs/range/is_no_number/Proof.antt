@@ -1,4 +1,4 @@
--- `range::is_no_number` meets its contract.
+-- `call::range::is_no_number` meets its contract: nature and count are compared with 0, and `places_in_range` tests the places for a count of 0.
 use borrow.Author.Needs.{needs}
 use Rattle.call.proofs.range.is_no_number.Statement.{statement}
 use Rattle.call.proofs.range.is_no_number.Tie as tie

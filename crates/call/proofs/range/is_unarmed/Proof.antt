@@ -1,4 +1,4 @@
--- `range::is_unarmed` meets its contract.
+-- `call::range::is_unarmed` meets its contract: no point is armed in the one mode, and none in the other, by `some_armed`.
 use borrow.Author.Needs.{needs}
 use Rattle.call.proofs.range.is_unarmed.Statement.{statement}
 use Rattle.call.proofs.range.is_unarmed.Tie as tie

@@ -1,4 +1,4 @@
--- `range::is_unused` meets its contract.
+-- `call::range::is_unused` meets its contract: the leg is not present and has no charge, as in the definition.
 use borrow.Author.Needs.{needs}
 use Rattle.call.proofs.range.is_unused.Statement.{statement}
 use Rattle.call.proofs.range.is_unused.Tie as tie

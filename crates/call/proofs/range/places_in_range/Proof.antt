@@ -1,3 +1,4 @@
+-- `call::range::places_in_range` meets its contract: at each turn what was found, and the places from `i` on, decide the answer.
 use mathlib.Core.Path.{_≡_, sym, _∙_}
 use mathlib.Core.Bool.{_&&_}
 use Prim.Native.Nat.{_≤_, _-_, _<_}
@@ -10,7 +11,6 @@ use Rattle.call.proofs.Laws.{places-step, places-end}
 use Rattle.call.proofs.range.places_in_range.Statement.{statement}
 use Rattle.call.proofs.range.places_in_range.Tie as tie
 
--- what was found, and the places from `i` on, decide the answer
 abbrev Inv-loop : tie.InvT-loop
 Inv-loop count digits ok₀ i₀ ok i = (i ≤ 15) × (length digits ≡ 15) × ((ok && placesInRange (count - i) (drop i digits)) ≡ placesInRange count digits)
 

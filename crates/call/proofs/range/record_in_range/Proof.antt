@@ -1,11 +1,17 @@
-use Rattle.call.specs.Range.{recordInRange}
+-- `call::range::record_in_range` meets its contract: its eight tests are the definition's, of a call whose points are document 01's.
 use borrow.Author.Needs.{needs}
+use Rattle.call.specs.Range.{inRangeOf}
 use Rattle.call.proofs.range.record_in_range.Statement.{statement}
 use Rattle.call.proofs.range.record_in_range.Tie as tie
 
+returns : tie.Need-returns
+unfolding inRangeOf
+returns c =
+    let l = c .before .before .before .before in
+    simp (c .number-in-range .ensures, c .before .is-default-timer .ensures, c .before .before .is-timer .ensures, c .before .before .before .armings-in-range .ensures, l .is-clock-reading .ensures, l .before .hold-in-range .ensures, l .before .before .charge-in-range2 .ensures, l .before .before .before .charge-in-range .ensures)
+
 pub record-in-range-spec : {M : Type 1} → statement M
-unfolding recordInRange
 record-in-range-spec =
     tie.close
-    (tie.spec (search needs) (search needs) (search needs) (search needs) (search needs) (search needs)
-    (λ c. simp (c .number-in-range .ensures, c .before .before .before .before .before .is-mode .ensures, c .before .before .before .before .before .before .before .before .hold-in-range .ensures, c .before .before .before .before .before .before .before .before .before .charge-in-range2 .ensures, c .before .before .before .before .before .before .before .before .before .before .charge-in-range .ensures, c .before .before .before .before .before .before .before .before .before .before .before .mode-at .ensures)))
+    (tie.spec (search needs) (search needs) (search needs) (search needs) (search needs)
+    (search needs) (search needs) (search needs) returns)

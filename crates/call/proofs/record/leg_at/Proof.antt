@@ -1,3 +1,4 @@
+-- `call::record::leg_at` meets its contract: an arm for each leg, with its field.
 use borrow.Author.Needs.{needs}
 use Rattle.call.proofs.record.leg_at.Statement.{statement}
 use Rattle.call.proofs.record.leg_at.Tie as tie

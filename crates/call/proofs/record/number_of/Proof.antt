@@ -1,3 +1,4 @@
+-- `call::record::number_of` meets its contract: the digits are those of `places_of`, nature and count as given.
 use borrow.Author.Needs.{needs}
 use Rattle.call.proofs.record.number_of.Statement.{statement}
 use Rattle.call.proofs.record.number_of.Tie as tie

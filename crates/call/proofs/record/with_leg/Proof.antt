@@ -1,3 +1,4 @@
+-- `call::record::with_leg` meets its contract: an arm for each leg, and the other stays.
 use borrow.Author.Needs.{needs}
 use Rattle.call.proofs.record.with_leg.Statement.{statement}
 use Rattle.call.proofs.record.with_leg.Tie as tie

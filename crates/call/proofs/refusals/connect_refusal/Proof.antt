@@ -1,3 +1,4 @@
+-- `call::refusals::connect_refusal` meets its contract: row 10 by `is_held`, then row 12 by `can_connect`.
 use borrow.Author.Needs.{needs}
 use Rattle.call.proofs.refusals.connect_refusal.Statement.{statement}
 use Rattle.call.proofs.refusals.connect_refusal.Tie as tie

@@ -1,3 +1,4 @@
+-- `call::refusals::control_refusal` meets its contract: row 7, then row 8 where there is no control, then those after.
 use borrow.Author.Needs.{needs}
 use Rattle.call.proofs.refusals.control_refusal.Statement.{statement}
 use Rattle.call.proofs.refusals.control_refusal.Tie as tie
@@ -6,4 +7,4 @@ pub control-refusal-spec : {M : Type 1} → statement M
 control-refusal-spec =
     tie.close
     (tie.spec (search needs) (search needs) (search needs) (search needs)
-    (λ c. simp (c .refuse-if2 .ensures, c .before .refuse-if .ensures, c .before .before .before .before .is-control .ensures, c .before .before .before .before .before .relationship-of .ensures)))
+    (λ c. let k = c .before .before .before .before in simp (c .refuse-if2 .ensures, c .before .refuse-if .ensures, k .is-control .ensures, k .before .relationship-of .ensures)))

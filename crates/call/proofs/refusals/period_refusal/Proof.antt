@@ -1,3 +1,4 @@
+-- `call::refusals::period_refusal` meets its contract: row 7, then rows 12 and 14 by `period_check` of the leg's charge.
 use borrow.Author.Needs.{needs}
 use Rattle.call.proofs.refusals.period_refusal.Statement.{statement}
 use Rattle.call.proofs.refusals.period_refusal.Tie as tie

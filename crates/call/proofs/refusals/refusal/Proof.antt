@@ -1,3 +1,4 @@
+-- `call::refusals::refusal` meets its contract: an arm for each kind of item, with the rows of that kind in their order.
 use borrow.Author.Needs.{needs}
 use Rattle.call.proofs.refusals.refusal.Statement.{statement}
 use Rattle.call.proofs.refusals.refusal.Tie as tie

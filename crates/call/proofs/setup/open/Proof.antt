@@ -1,3 +1,4 @@
+-- `call::setup::open` meets its contract: an item in range keeps `open_as`'s bounds by `item-fits`; any other is 1.
 use mathlib.Core.Path.{sym, _∙_}
 use borrow.Author.Needs.{needs}
 use Rattle.call.specs.Setup.{openOf}

@@ -1,3 +1,4 @@
+-- `call::setup::open_as` meets its contract: a Setup has its own function, and every other kind is 4 by `no-setup`.
 use Prim.Native.Nat.{ℕ}
 use mathlib.Core.Path.{_≡_, refl, sym}
 use mathlib.Core.List.{List, [], _∷_}
@@ -5,9 +6,9 @@ use denote.Enum.Declared.{tagOf}
 use types.Run.{OneOf, miss}
 use borrow.Author.Needs.{needs}
 use Rattle.call.specs.Types.{Tenths, Kind}
-use Rattle.call.specs.declared.step.Kind.the-variants as kind
+use Rattle.call.specs.declared.kind.Kind.the-variants as kind
 use Rattle.call.specs.Setup.{notOpen, openAs}
-use Rattle.call.proofs.step.Kind.{the-type}
+use Rattle.call.proofs.kind.Kind.{the-type}
 use Rattle.call.proofs.setup.open_as.Statement.{statement}
 use Rattle.call.proofs.setup.open_as.Tie as tie
 
@@ -32,4 +33,4 @@ open-as-spec =
     tie.close
     (tie.spec (search needs) (search needs) (search needs) (search needs)
     (λ c. simp (c .open-setup .ensures, c .before .before .k .given .1))
-    (λ c. let a = c .before .before .before .before .before .args in rw (c .refuse .ensures, c .before .blank-record .ensures) (sym (no-setup (a .k) (a .s .now) (a .rest .now) (a .t) (c .before .before .match .keys2)))))
+    (λ c. let b = c .before .before in let a = b .before .before .before .args in rw (c .refuse .ensures, c .before .blank-record .ensures) (sym (no-setup (a .k) (a .s .now) (a .rest .now) (a .t) (b .match .keys2)))))

@@ -1,3 +1,4 @@
+-- `call::setup::open_setup` meets its contract: a profile that was read has the view of its bytes, by `profile-read`; one that was not is 2.
 use mathlib.Core.Path.{sym, _∙_}
 use borrow.Author.Needs.{needs}
 use Rattle.forms.specs.Profile.{profileOf}
@@ -13,10 +14,11 @@ is-triggered-requires c κs =
 returns : tie.Need-returns
 unfolding profileOf
 returns c =
-    let b = c .before .before .before .before in
+    let t = c .before in
+    let b = t .before .before .before in
     let p = b .before .before in
     let e = profile-read _ _ (sym (p .read-profile .ensures) ∙ b .read .given .1) in
-    rw (c .begin .ensures, c .before .is-triggered .ensures, p .before .number-of .ensures, sym (e .1), e .0)
+    rw (c .begin .ensures, t .is-triggered .ensures, p .before .number-of .ensures, sym (e .1), e .0)
 
 returns-2 : tie.Need-returns-2
 returns-2 c =

@@ -1,3 +1,4 @@
+-- `call::setup::opened_record` meets its contract: each field is the definition's, the armings by `no_armings`.
 use borrow.Author.Needs.{needs}
 use Rattle.call.proofs.setup.opened_record.Statement.{statement}
 use Rattle.call.proofs.setup.opened_record.Tie as tie

@@ -1,3 +1,4 @@
+-- `call::step::serve` meets its contract: an arm for each kind of item, answered by its own function.
 use borrow.Author.Needs.{needs}
 use Rattle.call.proofs.step.serve.Statement.{statement}
 use Rattle.call.proofs.step.serve.Tie as tie

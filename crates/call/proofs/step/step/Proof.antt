@@ -1,3 +1,4 @@
+-- `call::step::step` meets its contract: of rows 1 and 3 the first that applies is given; where none does, `respond` answers.
 use mathlib.Core.Path.{sym, _∙_}
 use borrow.Author.Needs.{needs}
 use Rattle.call.specs.Step.{stepOf}

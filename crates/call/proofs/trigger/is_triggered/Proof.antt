@@ -1,3 +1,4 @@
+-- `call::trigger::is_triggered` meets its contract: the view's lists and criteria are the profile's, and each is tested as in the definition.
 use borrow.Author.Needs.{needs}
 use Rattle.forms.specs.Profile.{profileOf}
 use Rattle.call.specs.Trigger.{triggers}
@@ -7,8 +8,9 @@ use Rattle.call.proofs.trigger.is_triggered.Tie as tie
 returns : tie.Need-returns
 unfolding triggers profileOf
 returns c =
-    let l = c .before .before .before .before .before .before in
-    rw (c .holds-for2 .ensures, c .before .service-holds .ensures, c .before .before .holds-for .ensures, c .before .before .before .contains .ensures, c .before .before .before .before .some-match .ensures, c .before .before .before .before .before .list-at2 .ensures, l .list-at .ensures, l .before .before .before .pre .0)
+    let m = c .before .before .before .before in
+    let l = m .before .before in
+    rw (c .holds-for2 .ensures, c .before .service-holds .ensures, c .before .before .holds-for .ensures, c .before .before .before .contains .ensures, m .some-match .ensures, m .before .list-at2 .ensures, l .list-at .ensures, l .before .before .before .pre .0)
 
 pub is-triggered-spec : {M : Type 1} → statement M
 is-triggered-spec =

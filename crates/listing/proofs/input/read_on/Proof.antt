@@ -40,10 +40,11 @@ more-held f c e =
 
 loop-less : tie.Need-loop-less Inv-loop μ-loop
 loop-less c =
-    let k = c .before .before .before .before .before .before .before .before in
+    let fed = c .before .before .before .before .before in
+    let k = fed .before .before .before in
     let l = k .before .before .before .before .loop in
     let e : goesOn (l .feeder) _ ≡ true = rw (k .before .before .chunk-in .ensures) at (sym (k .before .goes-on .ensures) ∙ k .if1 .taken) in
-    rw (c .before .before .before .before .before .feed .ensures, c .before .before .before .before .before .before .chunk-in2 .ensures) (more-held (l .feeder) _ e)
+    rw (fed .feed .ensures, fed .before .chunk-in2 .ensures) (more-held (l .feeder) _ e)
 
 pub read-on-spec : {M : Type 1} → statement M
 read-on-spec =

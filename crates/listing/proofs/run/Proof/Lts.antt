@@ -330,7 +330,7 @@ abbrev b50 : Body
 b50 = seq (assign (place 7 []) (addrOf (place 1 ((field 0) ∷ (deref (tyInt w8)) ∷ [])))) (seq (assign (place 8 []) (aggregate ((copy (place 7 [])) ∷ (copy (place 1 ((field 1) ∷ []))) ∷ []))) (seq (call "listing::start" ((copy (place 8 [])) ∷ []) (place 3 [])) (seq b37 b46)))
 
 abbrev b52 : Body
-b52 = seq (call "table::entry::fresh" [] (place 6 [])) (seq (assign (place 2 []) (rvOpd (copy (place 6 [])))) b50)
+b52 = seq (call "table::slot::fresh" [] (place 6 [])) (seq (assign (place 2 []) (rvOpd (copy (place 6 [])))) b50)
 
 abbrev body : Body
 body = b52
@@ -720,7 +720,7 @@ module _ (claims· : Claims) where
   module _ (Pre· : (κs : Lfts 1) → Dens κs ps → Type 0) (Post· : (κs : Lfts 1) → (a : Dens κs ps) → Kinds.Plain 1 ps r κs) where
     module _ (M : Type 1) where
       abbrev pub Closed : Type 2
-      Closed = (𝓤 : URA M) (H : Wp.Heap 𝓤) (A : Atoms 𝓤) (W : Given 𝓤 H A) (𝓣 : Wp.Tables 𝓤 H) (known0 : Known 𝓤 H A W 𝓣 0 ps·0 r·0 (claims· .0) (claims· .1) "table::entry::fresh") (known1 : Known 𝓤 H A W 𝓣 1 ps r·1 (claims· .2) (claims· .3) "listing::start") (known2 : Known 𝓤 H A W 𝓣 1 ps·2 r·2 (claims· .4) (claims· .5) "listing::item_of") (known3 : Known 𝓤 H A W 𝓣 1 ps·2 r·2 (claims· .6) (claims· .7) "listing::profile_of") (known4 : Known 𝓤 H A W 𝓣 3 ps·4 r·4 (claims· .8) (claims· .9) "table::feed::feed_sound") (known5 : Known 𝓤 H A W 𝓣 1 ps·5 r·1 (claims· .10) (claims· .11) "listing::advance") (known6 : Known 𝓤 H A W 𝓣 1 ps·6 r (claims· .12) (claims· .13) "listing::finish") → Triple 𝓤 (Wp.WpFn 𝓤 H (𝓣 .C) (𝓣 .Λ) (fnOf 1 ps r xs m hs body)) (plainOf 𝓤 H A 1 ps r Pre· Post·)
+      Closed = (𝓤 : URA M) (H : Wp.Heap 𝓤) (A : Atoms 𝓤) (W : Given 𝓤 H A) (𝓣 : Wp.Tables 𝓤 H) (known0 : Known 𝓤 H A W 𝓣 0 ps·0 r·0 (claims· .0) (claims· .1) "table::slot::fresh") (known1 : Known 𝓤 H A W 𝓣 1 ps r·1 (claims· .2) (claims· .3) "listing::start") (known2 : Known 𝓤 H A W 𝓣 1 ps·2 r·2 (claims· .4) (claims· .5) "listing::item_of") (known3 : Known 𝓤 H A W 𝓣 1 ps·2 r·2 (claims· .6) (claims· .7) "listing::profile_of") (known4 : Known 𝓤 H A W 𝓣 3 ps·4 r·4 (claims· .8) (claims· .9) "table::feed::feed_sound") (known5 : Known 𝓤 H A W 𝓣 1 ps·5 r·1 (claims· .10) (claims· .11) "listing::advance") (known6 : Known 𝓤 H A W 𝓣 1 ps·6 r (claims· .12) (claims· .13) "listing::finish") → Triple 𝓤 (Wp.WpFn 𝓤 H (𝓣 .C) (𝓣 .Λ) (fnOf 1 ps r xs m hs body)) (plainOf 𝓤 H A 1 ps r Pre· Post·)
 
     module _ (Inv·0 : InvT-loop) (μ·0 : MeasureT-loop) where
       abbrev held·0 : Mo T12 → (List (rtF (fInt w8) .Denot) × arrF Elem.row 64 0 .Mod × whole State·row .Mod) → Type 0
@@ -794,7 +794,7 @@ module _ (claims· : Claims) where
 
       module _ {M : Type 1} (𝓤 : URA M) (H : Wp.Heap 𝓤) (A : Atoms 𝓤) (W : Given 𝓤 H A) (𝓣 : Wp.Tables 𝓤 H) where
         abbrev Knowns : Type 1
-        Knowns = Known 𝓤 H A W 𝓣 0 ps·0 r·0 (claims· .0) (claims· .1) "table::entry::fresh" × Known 𝓤 H A W 𝓣 1 ps r·1 (claims· .2) (claims· .3) "listing::start" × Known 𝓤 H A W 𝓣 1 ps·2 r·2 (claims· .4) (claims· .5) "listing::item_of" × Known 𝓤 H A W 𝓣 1 ps·2 r·2 (claims· .6) (claims· .7) "listing::profile_of" × Known 𝓤 H A W 𝓣 3 ps·4 r·4 (claims· .8) (claims· .9) "table::feed::feed_sound" × Known 𝓤 H A W 𝓣 1 ps·5 r·1 (claims· .10) (claims· .11) "listing::advance" × Known 𝓤 H A W 𝓣 1 ps·6 r (claims· .12) (claims· .13) "listing::finish"
+        Knowns = Known 𝓤 H A W 𝓣 0 ps·0 r·0 (claims· .0) (claims· .1) "table::slot::fresh" × Known 𝓤 H A W 𝓣 1 ps r·1 (claims· .2) (claims· .3) "listing::start" × Known 𝓤 H A W 𝓣 1 ps·2 r·2 (claims· .4) (claims· .5) "listing::item_of" × Known 𝓤 H A W 𝓣 1 ps·2 r·2 (claims· .6) (claims· .7) "listing::profile_of" × Known 𝓤 H A W 𝓣 3 ps·4 r·4 (claims· .8) (claims· .9) "table::feed::feed_sound" × Known 𝓤 H A W 𝓣 1 ps·5 r·1 (claims· .10) (claims· .11) "listing::advance" × Known 𝓤 H A W 𝓣 1 ps·6 r (claims· .12) (claims· .13) "listing::finish"
 
       module _ (κs : Lfts 1) (qs : Shares 1) where
         abbrev ℓ·0 : Life
@@ -988,7 +988,7 @@ module _ (claims· : Claims) where
           d62 = Joins.pre W (g-begin 𝓤 H A W E G5 1 (tt, (tt, (tt, (tt, (tt, (tt, (tt, (tt, (tt, (tt, (tt, (tt, (tt, (tt, (tt, (tt, (tt, (tt, (tt, (tt, (tt, (tt, (tt, tt)))))))))))))))))))))))) (then W (t-sl-relend 𝓤 H A W E u8 𝓣 G6 1 7 0 1 ty·5 ty·2 ℓ·0 0 (λ x. x) (as-is 𝓤 H A (mslice u8 ty·5 0)) (room-gone 𝓤 H A ty·2) refl tt refl refl refl λ b o. tt) (then W (t-sl-aggregate 𝓤 H A W E u8 𝓣 (asMut u8) G7 7 8 1 ty·2 ty·2 (λ x. x) (oFld 1 ((field 1) ∷ []) (tyInt w64) 8 λ v. lenV (v .0)) (as-is 𝓤 H A (msptr u8 ty·2 1)) (room-gone 𝓤 H A ty·1) (reads-owed-len 𝓤 H A W u8 ty·5 0 1 ℓ·0 8 refl, refl) refl refl λ b o k. tt) (then W (t-call-plain 𝓤 H A W 𝓣 1 ps r·1 (claims· .2) (claims· .3) "listing::start" (known .1) E (λ pos β. β) G8 (record { pos = 8; ty = tyRef erased mut (tyInt w8); ref = λ x. x }, tt) 3 (1 ∷ []) (sub-id 𝓤 H A W (G8 .slots)) (as-is 𝓤 H A (mslice u8 ty·2 1), reads-mslice 𝓤 H A W u8 ty·2 1, refl, tt) (room-gone 𝓤 H A Laws'.mir) (tt, tt) refl) (Typed.t-seq 𝓤 H A W 𝓣 E G9 G10 b37 b46 Δ0 (at45 bs) at57 (Joins.pre W (g-end 𝓤 H A W E G9 1 refl) (Joins.pre W (g-back-sl 𝓤 H A W E u8 G11 8 1 0 1 ty·5 ty·2 ℓ·0 (λ x. x) (λ x. x) (as-is 𝓤 H A (msleft u8 ty·2)) (as-is 𝓤 H A (mslice-owed u8 ty·5 0 1 ℓ·0)) refl refl) (Joins.pre W (g-sl-known 𝓤 H A W (fInt w8) E G12 1 0 ty·5 ℓ·0 0 (λ x. x) record { fits = lit< tt } (as-is 𝓤 H A (mslice u8 ty·5 0)) refl tt) (Joins.pre W (g-forget 𝓤 H A W E G12 1 dead refl) (Typed.t-block 𝓤 H A W 𝓣 E G14 b36 Δ1 (at40 bs) (Typed.t-loop-by 𝓤 H A W 𝓣 E G14 b35 Δ2 put0 held·0 left·0 (at39 bs) (then W (t-use 𝓤 H A W E 𝓣 G14 (oFld 3 ((field 7) ∷ []) tyBool 49 (Reads.fieldV State.the-type Laws'.the-laws 7)) 9 (sc-here sBool) tyBool (valS sBool) (sBool .of) (Reads.reads-field 𝓤 H A W State.the-type Laws'.the-laws 7 tyBool 49 refl, refl) (room-gone 𝓤 H A tyBool) (holds-sc 𝓤 H A W sBool) refl (λ u. refl) λ u. tt) (Typed.t-seq 𝓤 H A W 𝓣 E G15 G14 b8 b33 Δ3 at5 (at37 bs) (t-cond 𝓤 H A W E 𝓣 G15 9 (λ x. x) b6 b7 Δ4 at1 at4 (reads-sc 𝓤 H A W sBool) refl (Joins.pre W (g-room 𝓤 H A W E G15 9 tyBool (room-sc 𝓤 H A W sBool)) (Typed.t-skip 𝓤 H A W 𝓣 E Δ4 tt)) (Joins.pre W (g-room 𝓤 H A W E G15 2 ty·7 (Init.room-arr 𝓤 H A W Elem.row 64 0 64 refl)) (Joins.pre W (g-room 𝓤 H A W E G18 9 tyBool (room-sc 𝓤 H A W sBool)) (Typed.t-exit 𝓤 H A W 𝓣 E 1 Δ4 tt)))) d37)))))))) d57))))
 
           pub typed : Typed.Typed 𝓤 H A 𝓣 E (Γin 1 ps r xs m κs qs) b52 (Δret 1 ps r xs m κs qs) (Φ bs)
-          typed = Joins.pre W (g-sl-known 𝓤 H A W (fInt w8) E G0 1 0 ty·5 ℓ·0 0 (λ x. x) record { fits = lit< tt } (as-is 𝓤 H A (mslice u8 ty·5 0)) refl tt) (then W (t-call-plain 𝓤 H A W 𝓣 0 ps·0 r·0 (claims· .0) (claims· .1) "table::entry::fresh" (known .0) E (λ pos β. β) G0 tt 6 [] (sub-id 𝓤 H A W (G0 .slots)) tt (room-gone 𝓤 H A ty·7) tt refl) (then W (t-val-copy 𝓤 H A W E 𝓣 (λ ρ. Unit) G3 6 2 (Array'.Array Elem.row 64) ty·7 ty·7 (arrF Elem.row 64 0) (arrF Elem.row 64 0) (λ x. x) (λ x. x) (λ x. x) refl (Own.told-none 𝓤 H A (G3 .slots)) (Yields.yields-copy 𝓤 H A W (λ ρ. Unit) (Array'.Array Elem.row 64) refl (cArr Elem.row Elem.copies 64 .copy 𝓤 H A W) (arrF Elem.row 64 0) (λ x. x) (λ x. x) (λ ρ told. Whole.mem-arr 𝓤 H A W Elem.row 64 ρ) λ ρ told. Whole.arr-mem 𝓤 H A W Elem.row 64 tt ρ) (room-gone 𝓤 H A ty·7) (Yields.makes-mem 𝓤 H A W (λ ρ. Unit) (Array'.Array Elem.row 64) refl (arrF Elem.row 64 0) (λ x. x) λ ρ told. Whole.arr-mem 𝓤 H A W Elem.row 64 tt ρ) refl refl) (Joins.pre W (g-room 𝓤 H A W E (cx (_++_ t4 t1) ls·9) 6 ty·7 (Init.room-arr 𝓤 H A W Elem.row 64 0 64 refl)) d62)))
+          typed = Joins.pre W (g-sl-known 𝓤 H A W (fInt w8) E G0 1 0 ty·5 ℓ·0 0 (λ x. x) record { fits = lit< tt } (as-is 𝓤 H A (mslice u8 ty·5 0)) refl tt) (then W (t-call-plain 𝓤 H A W 𝓣 0 ps·0 r·0 (claims· .0) (claims· .1) "table::slot::fresh" (known .0) E (λ pos β. β) G0 tt 6 [] (sub-id 𝓤 H A W (G0 .slots)) tt (room-gone 𝓤 H A ty·7) tt refl) (then W (t-val-copy 𝓤 H A W E 𝓣 (λ ρ. Unit) G3 6 2 (Array'.Array Elem.row 64) ty·7 ty·7 (arrF Elem.row 64 0) (arrF Elem.row 64 0) (λ x. x) (λ x. x) (λ x. x) refl (Own.told-none 𝓤 H A (G3 .slots)) (Yields.yields-copy 𝓤 H A W (λ ρ. Unit) (Array'.Array Elem.row 64) refl (cArr Elem.row Elem.copies 64 .copy 𝓤 H A W) (arrF Elem.row 64 0) (λ x. x) (λ x. x) (λ ρ told. Whole.mem-arr 𝓤 H A W Elem.row 64 ρ) λ ρ told. Whole.arr-mem 𝓤 H A W Elem.row 64 tt ρ) (room-gone 𝓤 H A ty·7) (Yields.makes-mem 𝓤 H A W (λ ρ. Unit) (Array'.Array Elem.row 64) refl (arrF Elem.row 64 0) (λ x. x) λ ρ told. Whole.arr-mem 𝓤 H A W Elem.row 64 tt ρ) refl refl) (Joins.pre W (g-room 𝓤 H A W E (cx (_++_ t4 t1) ls·9) 6 ty·7 (Init.room-arr 𝓤 H A W Elem.row 64 0 64 refl)) d62)))
 
       module _ (κs : Lfts 1) where
         pub record Args : Type 0 where
@@ -1092,43 +1092,43 @@ module _ (claims· : Claims) where
       abbrev pub Need-loop-holds : Type 0
       Need-loop-holds = (c : After-slice-known2) → held·0 (m9 (c .before) (c .slice-known2 .given)) (turn·0 (m9 (c .before) (c .slice-known2 .given)))
 
-      abbrev W3 : (before : After-slice-known2) → (buf : List (rtF (fInt w8) .Denot)) → (entries : arrF Elem.row 64 0 .Mod) → (s : whole State·row .Mod) → Want O3
-      W3 = λ before buf entries s. Typed.inLoop T12 O2 (Typed.Round T12 O2 put0 held·0 left·0 (at39 (before .before .before .before .before .before .before .blocks)) (m9 (before .before) (before .slice-known2 .given)) (buf, entries, s)) (Typed.inBlock O1 (wantNext T10 O0 (at57 (Wanted (((before .before) .before .before) .before .before .before))) (Wanted (((before .before) .before .before) .before .before .before))))
+      abbrev W3 : (before : After-slice-known2) → (buf : List (rtF (fInt w8) .Denot)) → (slots : arrF Elem.row 64 0 .Mod) → (s : whole State·row .Mod) → Want O3
+      W3 = λ before buf slots s. Typed.inLoop T12 O2 (Typed.Round T12 O2 put0 held·0 left·0 (at39 (before .before .before .before .before .before .before .blocks)) (m9 (before .before) (before .slice-known2 .given)) (buf, slots, s)) (Typed.inBlock O1 (wantNext T10 O0 (at57 (Wanted (((before .before) .before .before) .before .before .before))) (Wanted (((before .before) .before .before) .before .before .before))))
 
-      abbrev m11 : (before : After-slice-known2) → (buf : List (rtF (fInt w8) .Denot)) → (entries : arrF Elem.row 64 0 .Mod) → (s : whole State·row .Mod) → Mo T15
-      m11 = λ before buf entries s. s12 (set 3 en·12 s (setRow 2 en·14 (setRow 1 en·16 (T12 .locals))) (set 2 en·14 entries (setRow 1 en·16 (T12 .locals)) (set 1 en·16 record { ptr = get 1 (T12 .locals) (m9 (before .before) (before .slice-known2 .given)) .ptr; name = get 1 (T12 .locals) (m9 (before .before) (before .slice-known2 .given)) .name; now = buf } (T12 .locals) (m9 (before .before) (before .slice-known2 .given)))))
+      abbrev m11 : (before : After-slice-known2) → (buf : List (rtF (fInt w8) .Denot)) → (slots : arrF Elem.row 64 0 .Mod) → (s : whole State·row .Mod) → Mo T15
+      m11 = λ before buf slots s. s12 (set 3 en·12 s (setRow 2 en·14 (setRow 1 en·16 (T12 .locals))) (set 2 en·14 slots (setRow 1 en·16 (T12 .locals)) (set 1 en·16 record { ptr = get 1 (T12 .locals) (m9 (before .before) (before .slice-known2 .given)) .ptr; name = get 1 (T12 .locals) (m9 (before .before) (before .slice-known2 .given)) .name; now = buf } (T12 .locals) (m9 (before .before) (before .slice-known2 .given)))))
 
-      abbrev W4 : (before : After-slice-known2) → (buf : List (rtF (fInt w8) .Denot)) → (entries : arrF Elem.row 64 0 .Mod) → (s : whole State·row .Mod) → Want O4
-      W4 = λ before buf entries s. wantNext T12 O3 (at37 (before .before .before .before .before .before .before .blocks) (W3 before buf entries s)) (W3 before buf entries s)
+      abbrev W4 : (before : After-slice-known2) → (buf : List (rtF (fInt w8) .Denot)) → (slots : arrF Elem.row 64 0 .Mod) → (s : whole State·row .Mod) → Want O4
+      W4 = λ before buf slots s. wantNext T12 O3 (at37 (before .before .before .before .before .before .before .blocks) (W3 before buf slots s)) (W3 before buf slots s)
 
       module _ (before· : After-slice-known2) where
         pub record At-loop·own : Type 0 where
           pub buf : List (rtF (fInt w8) .Denot)
-          pub entries : arrF Elem.row 64 0 .Mod
+          pub slots : arrF Elem.row 64 0 .Mod
           pub s : whole State·row .Mod
-          pub inv : held·0 (m9 (before· .before) (before· .slice-known2 .given)) (buf, entries, s)
+          pub inv : held·0 (m9 (before· .before) (before· .slice-known2 .given)) (buf, slots, s)
 
       pub record At-loop : Type 0 where
         pub before : After-slice-known2
         pub loop : At-loop·own before
 
       abbrev m12 : (before : At-loop) → Mo T12
-      m12 = λ before. s13 (m11 (before .before) (before .loop .buf) (before .loop .entries) (before .loop .s))
+      m12 = λ before. s13 (m11 (before .before) (before .loop .buf) (before .loop .slots) (before .loop .s))
 
       module _ (before· : At-loop) where
         pub record In-loop·own : Type 0 where
-          pub taken : _≡_ (get 9 (T15 .locals) (m11 (before· .before) (before· .loop .buf) (before· .loop .entries) (before· .loop .s))) Bool.true
+          pub taken : _≡_ (get 9 (T15 .locals) (m11 (before· .before) (before· .loop .buf) (before· .loop .slots) (before· .loop .s))) Bool.true
 
       pub record In-loop : Type 0 where
         pub before : At-loop
         pub loop-test : In-loop·own before
 
       abbrev m14 : (before : At-loop) → Mo T10
-      m14 = λ before. s15 (s14 (m11 (before .before) (before .loop .buf) (before .loop .entries) (before .loop .s)))
+      m14 = λ before. s15 (s14 (m11 (before .before) (before .loop .buf) (before .loop .slots) (before .loop .s)))
 
       module _ (before· : At-loop) where
         pub record After-loop·own : Type 0 where
-          pub left : _≡_ (get 9 (T15 .locals) (m11 (before· .before) (before· .loop .buf) (before· .loop .entries) (before· .loop .s))) Bool.false
+          pub left : _≡_ (get 9 (T15 .locals) (m11 (before· .before) (before· .loop .buf) (before· .loop .slots) (before· .loop .s))) Bool.false
 
       pub record After-loop : Type 0 where
         pub before : At-loop
@@ -1138,28 +1138,28 @@ module _ (claims· : Claims) where
       m15 = λ before given. s17 (before .before .before .before .before .before .before .before .before .blocks) .next (m12 (before .before)) given
 
       module _ (before· : In-loop) where
-        pub record After-entries·own : Type 0 where
+        pub record After-slots·own : Type 0 where
           pub given : s17 (before· .before .before .before .before .before .before .before .before .blocks) .gives (m12 (before· .before))
 
-      pub record After-entries : Type 0 where
+      pub record After-slots : Type 0 where
         pub before : In-loop
-        pub entries : After-entries·own before
+        pub slots : After-slots·own before
 
       abbrev pub Need-slice-aggregate-feed-sound : Type 0
-      Need-slice-aggregate-feed-sound = (c : After-entries) → CountIs T21 10 11 (λ x. x) (λ u. 64) (m15 (c .before) (c .entries .given))
+      Need-slice-aggregate-feed-sound = (c : After-slots) → CountIs T21 10 11 (λ x. x) (λ u. 64) (m15 (c .before) (c .slots .given))
 
       abbrev m16 : (before : In-loop) → (given : s17 (before .before .before .before .before .before .before .before .before .blocks) .gives (m12 (before .before))) → Mo T22
       m16 = λ before given. s18 .next (m15 before given)
 
-      abbrev m18 : (before : After-entries) → (given : s20 .gives (m16 (before .before) (before .entries .given))) → Mo T25
-      m18 = λ before given. s21 .next (s20 .next (m16 (before .before) (before .entries .given)) given)
+      abbrev m18 : (before : After-slots) → (given : s20 .gives (m16 (before .before) (before .slots .given))) → Mo T25
+      m18 = λ before given. s21 .next (s20 .next (m16 (before .before) (before .slots .given)) given)
 
-      module _ (before· : After-entries) where
+      module _ (before· : After-slots) where
         pub record After-item-of-arg·own : Type 0 where
-          pub given : s20 .gives (m16 (before· .before) (before· .entries .given))
+          pub given : s20 .gives (m16 (before· .before) (before· .slots .given))
 
       pub record After-item-of-arg : Type 0 where
-        pub before : After-entries
+        pub before : After-slots
         pub item-of-arg : After-item-of-arg·own before
 
       abbrev pub Need-item-of-requires : Type 0
@@ -1214,22 +1214,22 @@ module _ (claims· : Claims) where
       m29 = λ before given. s35 (s32 .next (m27 (before .before) (After-feed-sound·gave before)) given)
 
       module _ (before· : After-feed-sound) where
-        pub record After-entries2·own : Type 0 where
+        pub record After-slots2·own : Type 0 where
           pub given : s32 .gives (m27 (before· .before) (After-feed-sound·gave before·))
 
-      pub record After-entries2 : Type 0 where
+      pub record After-slots2 : Type 0 where
         pub before : After-feed-sound
-        pub entries2 : After-entries2·own before
+        pub slots2 : After-slots2·own before
 
-      abbrev m31 : (before : After-entries2) → (given : s38 .gives (m29 (before .before) (before .entries2 .given))) → Mo T43
-      m31 = λ before given. s39 .next (s38 .next (m29 (before .before) (before .entries2 .given)) given)
+      abbrev m31 : (before : After-slots2) → (given : s38 .gives (m29 (before .before) (before .slots2 .given))) → Mo T43
+      m31 = λ before given. s39 .next (s38 .next (m29 (before .before) (before .slots2 .given)) given)
 
-      module _ (before· : After-entries2) where
+      module _ (before· : After-slots2) where
         pub record After-advance-arg·own : Type 0 where
-          pub given : s38 .gives (m29 (before· .before) (before· .entries2 .given))
+          pub given : s38 .gives (m29 (before· .before) (before· .slots2 .given))
 
       pub record After-advance-arg : Type 0 where
-        pub before : After-entries2
+        pub before : After-slots2
         pub advance-arg : After-advance-arg·own before
 
       abbrev pub Need-advance-requires : Type 0
@@ -1271,7 +1271,7 @@ module _ (claims· : Claims) where
         pub slice-known3 : After-slice-known3·own before
 
       abbrev pub Need-loop-less : Type 0
-      Need-loop-less = (c : After-slice-known3) → _<_ (left·0 (m9 (c .before .before .before .before .before .before .before .before .before .before .before .before .before) (c .before .before .before .before .before .before .before .before .before .before .before .before .slice-known2 .given)) (turn·0 (m38 (c .before) (c .slice-known3 .given)))) (left·0 (m9 (c .before .before .before .before .before .before .before .before .before .before .before .before .before) (c .before .before .before .before .before .before .before .before .before .before .before .before .slice-known2 .given)) ((c .before .before .before .before .before .before .before .before .before .before .before .loop .buf), (c .before .before .before .before .before .before .before .before .before .before .before .loop .entries), (c .before .before .before .before .before .before .before .before .before .before .before .loop .s)))
+      Need-loop-less = (c : After-slice-known3) → _<_ (left·0 (m9 (c .before .before .before .before .before .before .before .before .before .before .before .before .before) (c .before .before .before .before .before .before .before .before .before .before .before .before .slice-known2 .given)) (turn·0 (m38 (c .before) (c .slice-known3 .given)))) (left·0 (m9 (c .before .before .before .before .before .before .before .before .before .before .before .before .before) (c .before .before .before .before .before .before .before .before .before .before .before .before .slice-known2 .given)) ((c .before .before .before .before .before .before .before .before .before .before .before .loop .buf), (c .before .before .before .before .before .before .before .before .before .before .before .loop .slots), (c .before .before .before .before .before .before .before .before .before .before .before .loop .s)))
 
       abbrev pub Need-loop-again : Type 0
       Need-loop-again = (c : After-slice-known3) → held·0 (m9 (c .before .before .before .before .before .before .before .before .before .before .before .before .before) (c .before .before .before .before .before .before .before .before .before .before .before .before .slice-known2 .given)) (turn·0 (m38 (c .before) (c .slice-known3 .given)))
@@ -1338,23 +1338,23 @@ module _ (claims· : Claims) where
         lay8 : (c : After-loop) → at57 (Wanted (c .before .before .before .before .before .before .before .before)) (m14 (c .before))
         lay8 = λ c. λ g. (refl, (finish-requires record { before = c; finish-arg = record { given = g } }, λ g'. lay9 record { before = record { before = c; finish-arg = record { given = g } }; finish = called g' }))
 
-        lay7 : (c : After-advance) → at12 (W3 (c .before .before .before .before .before .before .before .before .before .before) (c .before .before .before .before .before .before .before .before .before .loop .buf) (c .before .before .before .before .before .before .before .before .before .loop .entries) (c .before .before .before .before .before .before .before .before .before .loop .s)) (m32 (c .before) (After-advance·gave c))
+        lay7 : (c : After-advance) → at12 (W3 (c .before .before .before .before .before .before .before .before .before .before) (c .before .before .before .before .before .before .before .before .before .loop .buf) (c .before .before .before .before .before .before .before .before .before .loop .slots) (c .before .before .before .before .before .before .before .before .before .loop .s)) (m32 (c .before) (After-advance·gave c))
         lay7 = λ c. (refl, λ g. λ g'. (left·0 (m9 (c .before .before .before .before .before .before .before .before .before .before .before) (c .before .before .before .before .before .before .before .before .before .before .slice-known2 .given)) (turn·0 (m38 record { before = c; buf2 = record { given = g } } g')), loop-less record { before = record { before = c; buf2 = record { given = g } }; slice-known3 = record { given = g' } }, ((turn·0 (m38 record { before = c; buf2 = record { given = g } } g')), refl {a = m38 record { before = c; buf2 = record { given = g } } g'}, loop-again record { before = record { before = c; buf2 = record { given = g } }; slice-known3 = record { given = g' } }, refl {a = left·0 (m9 (c .before .before .before .before .before .before .before .before .before .before .before) (c .before .before .before .before .before .before .before .before .before .before .slice-known2 .given)) (turn·0 (m38 record { before = c; buf2 = record { given = g } } g'))})))
 
-        lay6 : (c : After-feed-sound) → at24 (W3 (c .before .before .before .before .before .before .before) (c .before .before .before .before .before .before .loop .buf) (c .before .before .before .before .before .before .loop .entries) (c .before .before .before .before .before .before .loop .s)) (m25 (c .before) (After-feed-sound·gave c))
-        lay6 = λ c. (refl, λ g. λ g'. (refl, (advance-requires record { before = record { before = c; entries2 = record { given = g } }; advance-arg = record { given = g' } }, λ g''. lay7 record { before = record { before = record { before = c; entries2 = record { given = g } }; advance-arg = record { given = g' } }; advance = called g'' })))
+        lay6 : (c : After-feed-sound) → at24 (W3 (c .before .before .before .before .before .before .before) (c .before .before .before .before .before .before .loop .buf) (c .before .before .before .before .before .before .loop .slots) (c .before .before .before .before .before .before .loop .s)) (m25 (c .before) (After-feed-sound·gave c))
+        lay6 = λ c. (refl, λ g. λ g'. (refl, (advance-requires record { before = record { before = c; slots2 = record { given = g } }; advance-arg = record { given = g' } }, λ g''. lay7 record { before = record { before = record { before = c; slots2 = record { given = g } }; advance-arg = record { given = g' } }; advance = called g'' })))
 
-        lay5 : (c : After-profile-of) → at26 (W3 (c .before .before .before .before .before .before) (c .before .before .before .before .before .loop .buf) (c .before .before .before .before .before .loop .entries) (c .before .before .before .before .before .loop .s)) (m23 (c .before) (After-profile-of·gave c))
+        lay5 : (c : After-profile-of) → at26 (W3 (c .before .before .before .before .before .before) (c .before .before .before .before .before .loop .buf) (c .before .before .before .before .before .loop .slots) (c .before .before .before .before .before .loop .s)) (m23 (c .before) (After-profile-of·gave c))
         lay5 = λ c. (feed-sound-requires c, λ g. lay6 record { before = c; feed-sound = called g })
 
-        lay4 : (c : After-item-of) → at30 (W3 (c .before .before .before .before .before) (c .before .before .before .before .loop .buf) (c .before .before .before .before .loop .entries) (c .before .before .before .before .loop .s)) (m19 (c .before) (After-item-of·gave c))
+        lay4 : (c : After-item-of) → at30 (W3 (c .before .before .before .before .before) (c .before .before .before .before .loop .buf) (c .before .before .before .before .loop .slots) (c .before .before .before .before .loop .s)) (m19 (c .before) (After-item-of·gave c))
         lay4 = λ c. (refl, (profile-of-requires c, λ g. lay5 record { before = c; profile-of = called g }))
 
-        lay3 : (c : In-loop) → at37 (c .before .before .before .before .before .before .before .before .blocks) (W3 (c .before .before) (c .before .loop .buf) (c .before .loop .entries) (c .before .loop .s)) (m12 (c .before))
-        lay3 = λ c. λ g. (count-is T21 10 11 (λ x. x) (λ u. 64) (m15 record { before = c .before; loop-test = c .loop-test } g) (slice-aggregate-feed-sound record { before = c; entries = record { given = g } }), λ g'. (refl, (item-of-requires record { before = record { before = c; entries = record { given = g } }; item-of-arg = record { given = g' } }, λ g''. lay4 record { before = record { before = record { before = c; entries = record { given = g } }; item-of-arg = record { given = g' } }; item-of = called g'' })))
+        lay3 : (c : In-loop) → at37 (c .before .before .before .before .before .before .before .before .blocks) (W3 (c .before .before) (c .before .loop .buf) (c .before .loop .slots) (c .before .loop .s)) (m12 (c .before))
+        lay3 = λ c. λ g. (count-is T21 10 11 (λ x. x) (λ u. 64) (m15 record { before = c .before; loop-test = c .loop-test } g) (slice-aggregate-feed-sound record { before = c; slots = record { given = g } }), λ g'. (refl, (item-of-requires record { before = record { before = c; slots = record { given = g } }; item-of-arg = record { given = g' } }, λ g''. lay4 record { before = record { before = record { before = c; slots = record { given = g } }; item-of-arg = record { given = g' } }; item-of = called g'' })))
 
         lay2 : (c : After-start) → at58 (c .before .before .before .before .blocks) (Wanted (c .before .before .before .before)) (m7 (c .before) (After-start·gave c))
-        lay2 = λ c. (refl, λ g. λ g'. (((turn·0 (m9 record { before = c; buf = record { given = g } } g')), refl {a = m9 record { before = c; buf = record { given = g } } g'}, loop-holds record { before = record { before = c; buf = record { given = g } }; slice-known2 = record { given = g' } }), λ vs inv. (λ taken. lay3 record { before = record { before = record { before = record { before = c; buf = record { given = g } }; slice-known2 = record { given = g' } }; loop = record { buf = vs .0; entries = vs .1; s = vs .2; inv = inv } }; loop-test = record { taken = taken } }, λ left. lay8 record { before = record { before = record { before = record { before = c; buf = record { given = g } }; slice-known2 = record { given = g' } }; loop = record { buf = vs .0; entries = vs .1; s = vs .2; inv = inv } }; loop-test = record { left = left } })))
+        lay2 = λ c. (refl, λ g. λ g'. (((turn·0 (m9 record { before = c; buf = record { given = g } } g')), refl {a = m9 record { before = c; buf = record { given = g } } g'}, loop-holds record { before = record { before = c; buf = record { given = g } }; slice-known2 = record { given = g' } }), λ vs inv. (λ taken. lay3 record { before = record { before = record { before = record { before = c; buf = record { given = g } }; slice-known2 = record { given = g' } }; loop = record { buf = vs .0; slots = vs .1; s = vs .2; inv = inv } }; loop-test = record { taken = taken } }, λ left. lay8 record { before = record { before = record { before = record { before = c; buf = record { given = g } }; slice-known2 = record { given = g' } }; loop = record { buf = vs .0; slots = vs .1; s = vs .2; inv = inv } }; loop-test = record { left = left } })))
 
         lay1 : (c : After-fresh) → at64 (c .before .before .blocks) (Wanted (c .before .before)) (m2 (c .before) (After-fresh·gave c))
         lay1 = λ c. λ g. (refl, (start-requires record { before = c; start-arg = record { given = g } }, λ g'. lay2 record { before = record { before = c; start-arg = record { given = g } }; start = called g' }))
@@ -1366,6 +1366,6 @@ module _ (claims· : Claims) where
           pub asked : (a : Dens κs ps) → (good : Kinds.GoodsP κs ps a) → (pre : Pre· κs a) → (bs : List ℕ) → Φ bs (Any.wantQ 1 ps r xs m κs qs a (Post· κs a)) (init 1 ps r xs m κs qs a)
           asked = λ a good pre bs. laid record { κs = κs; args = record { buf = a .0 }; blocks = bs; good = good; pre = pre }
 
-        module _ {M : Type 1} (𝓤 : URA M) (H : Wp.Heap 𝓤) (A : Atoms 𝓤) (W : Given 𝓤 H A) (𝓣 : Wp.Tables 𝓤 H) (known0 : Known 𝓤 H A W 𝓣 0 ps·0 r·0 (claims· .0) (claims· .1) "table::entry::fresh") (known1 : Known 𝓤 H A W 𝓣 1 ps r·1 (claims· .2) (claims· .3) "listing::start") (known2 : Known 𝓤 H A W 𝓣 1 ps·2 r·2 (claims· .4) (claims· .5) "listing::item_of") (known3 : Known 𝓤 H A W 𝓣 1 ps·2 r·2 (claims· .6) (claims· .7) "listing::profile_of") (known4 : Known 𝓤 H A W 𝓣 3 ps·4 r·4 (claims· .8) (claims· .9) "table::feed::feed_sound") (known5 : Known 𝓤 H A W 𝓣 1 ps·5 r·1 (claims· .10) (claims· .11) "listing::advance") (known6 : Known 𝓤 H A W 𝓣 1 ps·6 r (claims· .12) (claims· .13) "listing::finish") where
+        module _ {M : Type 1} (𝓤 : URA M) (H : Wp.Heap 𝓤) (A : Atoms 𝓤) (W : Given 𝓤 H A) (𝓣 : Wp.Tables 𝓤 H) (known0 : Known 𝓤 H A W 𝓣 0 ps·0 r·0 (claims· .0) (claims· .1) "table::slot::fresh") (known1 : Known 𝓤 H A W 𝓣 1 ps r·1 (claims· .2) (claims· .3) "listing::start") (known2 : Known 𝓤 H A W 𝓣 1 ps·2 r·2 (claims· .4) (claims· .5) "listing::item_of") (known3 : Known 𝓤 H A W 𝓣 1 ps·2 r·2 (claims· .6) (claims· .7) "listing::profile_of") (known4 : Known 𝓤 H A W 𝓣 3 ps·4 r·4 (claims· .8) (claims· .9) "table::feed::feed_sound") (known5 : Known 𝓤 H A W 𝓣 1 ps·5 r·1 (claims· .10) (claims· .11) "listing::advance") (known6 : Known 𝓤 H A W 𝓣 1 ps·6 r (claims· .12) (claims· .13) "listing::finish") where
           pub spec : Triple 𝓤 (Wp.WpFn 𝓤 H (𝓣 .C) (𝓣 .Λ) (fnOf 1 ps r xs m hs body)) (plainOf 𝓤 H A 1 ps r Pre· Post·)
           spec = t-fn-plain 𝓤 H A W 𝓣 1 ps r xs m hs body (λ κs qs bs. Φ bs) (λ κs qs bs bd. typed κs qs 𝓤 H A W 𝓣 (known0, known1, known2, known3, known4, known5, known6) bs bd) Pre· Post· asked

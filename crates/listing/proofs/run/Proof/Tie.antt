@@ -21,18 +21,18 @@ use Rattle.listing.proofs.run.Statement
 use Rattle.listing.proofs.start.Met as Met'4
 use Rattle.listing.proofs.start.Reads as Reads'5
 use Rattle.listing.proofs.start.Symbol as Symbol'4
-use Rattle.table.proofs.entry.fresh.Met as Met'5
-use Rattle.table.proofs.entry.fresh.Reads as Reads'6
-use Rattle.table.proofs.entry.fresh.Symbol as Symbol'5
-use Rattle.table.proofs.feed.feed_sound.Met as Met'6
-use Rattle.table.proofs.Lent.feed_feed_sound_Reads as Reads'7
-use Rattle.table.proofs.feed.feed_sound.Symbol as Symbol'6
+use Rattle.table.proofs.feed.feed_sound.Met as Met'5
+use Rattle.table.proofs.Lent.feed_feed_sound_Reads as Reads'6
+use Rattle.table.proofs.feed.feed_sound.Symbol as Symbol'5
+use Rattle.table.proofs.slot.fresh.Met as Met'6
+use Rattle.table.proofs.slot.fresh.Reads as Reads'7
+use Rattle.table.proofs.slot.fresh.Symbol as Symbol'6
 use borrow.Fn.Run
 use borrow.Fn.Written
 use contract.Running
 
 abbrev given : Lts.Claims
-given = (Reads'6.Asked, Reads'6.Learnt, Reads'5.Asked, Reads'5.Learnt, Reads''.Asked, Reads''.Learnt, Reads'3.Asked, Reads'3.Learnt, Reads'7.Asked, Reads'7.Learnt, Reads.Asked, Reads.Learnt, Reads'.Asked, Reads'.Learnt)
+given = (Reads'7.Asked, Reads'7.Learnt, Reads'5.Asked, Reads'5.Learnt, Reads''.Asked, Reads''.Learnt, Reads'3.Asked, Reads'3.Learnt, Reads'6.Asked, Reads'6.Learnt, Reads.Asked, Reads.Learnt, Reads'.Asked, Reads'.Learnt)
 
 abbrev pub InvT-loop : Type 1
 InvT-loop = Lts.InvT-loop
@@ -71,8 +71,8 @@ module _ (Inv : InvT-loop) (μ : MeasureT-loop) where
   abbrev pub After-loop : Type 0
   After-loop = Lts.After-loop given Pre Post Inv μ
 
-  abbrev pub After-entries : Type 0
-  After-entries = Lts.After-entries given Pre Post Inv μ
+  abbrev pub After-slots : Type 0
+  After-slots = Lts.After-slots given Pre Post Inv μ
 
   abbrev pub After-item-of-arg : Type 0
   After-item-of-arg = Lts.After-item-of-arg given Pre Post Inv μ
@@ -86,8 +86,8 @@ module _ (Inv : InvT-loop) (μ : MeasureT-loop) where
   abbrev pub After-feed-sound : Type 0
   After-feed-sound = Lts.After-feed-sound given Pre Post Inv μ
 
-  abbrev pub After-entries2 : Type 0
-  After-entries2 = Lts.After-entries2 given Pre Post Inv μ
+  abbrev pub After-slots2 : Type 0
+  After-slots2 = Lts.After-slots2 given Pre Post Inv μ
 
   abbrev pub After-advance-arg : Type 0
   After-advance-arg = Lts.After-advance-arg given Pre Post Inv μ
@@ -158,4 +158,4 @@ module _ (Inv : InvT-loop) (μ : MeasureT-loop) where
 module _ {M : Type 1} where
   pub close : Lts.Closed given Pre Post M → Statement.statement M
   unfolding Code.routine Running.tablesOf
-  close = λ closed 𝓤 H 𝓜 𝓖 𝓡. let w : World = record { M = M; 𝓤 = 𝓤; H = H; 𝓜 = 𝓜; 𝓖 = 𝓖; 𝓡 = 𝓡 } in Written.close 1 Kinds.ps Kinds.r Ghost requires ensures pre-read Pinned Owned post-read w Code.env Key.name Code.function (Code.unfolded 𝓤 H 𝓜 𝓡) (λ κs a g. tt) (λ κs. owns κs w) (passes w) λ g. closed 𝓤 H (𝓖 .A) (Running.givenOf 𝓤 H 𝓜 𝓖) (Run.Over 𝓤 H 𝓜 𝓖 𝓡 Code.env) (Reads'6.known w Code.env Symbol'5.name Symbol'5.routine Code.calls-table·entry·fresh (Met'5.met 𝓤 H 𝓜 𝓖 𝓡)) (Reads'5.known w Code.env Symbol'4.name Symbol'4.routine Code.calls-listing·start (Met'4.met 𝓤 H 𝓜 𝓖 𝓡)) (Reads''.known w Code.env Symbol''.name Symbol''.routine Code.calls-listing·item-of (Met''.met 𝓤 H 𝓜 𝓖 𝓡)) (Reads'3.known w Code.env Symbol'3.name Symbol'3.routine Code.calls-listing·profile-of (Met'3.met 𝓤 H 𝓜 𝓖 𝓡)) (Reads'7.known w Code.env Symbol'6.name Symbol'6.routine Code.calls-table·feed·feed-sound (Met'6.met 𝓤 H 𝓜 𝓖 𝓡)) (Reads.known w Code.env Symbol.name Symbol.routine Code.calls-listing·advance (Met.met 𝓤 H 𝓜 𝓖 𝓡)) (Reads'.known w Code.env Symbol'.name Symbol'.routine Code.calls-listing·finish (Met'.met 𝓤 H 𝓜 𝓖 𝓡))
+  close = λ closed 𝓤 H 𝓜 𝓖 𝓡. let w : World = record { M = M; 𝓤 = 𝓤; H = H; 𝓜 = 𝓜; 𝓖 = 𝓖; 𝓡 = 𝓡 } in Written.close 1 Kinds.ps Kinds.r Ghost requires ensures pre-read Pinned Owned post-read w Code.env Key.name Code.function (Code.unfolded 𝓤 H 𝓜 𝓡) (λ κs a g. tt) (λ κs. owns κs w) (passes w) λ g. closed 𝓤 H (𝓖 .A) (Running.givenOf 𝓤 H 𝓜 𝓖) (Run.Over 𝓤 H 𝓜 𝓖 𝓡 Code.env) (Reads'7.known w Code.env Symbol'6.name Symbol'6.routine Code.calls-table·slot·fresh (Met'6.met 𝓤 H 𝓜 𝓖 𝓡)) (Reads'5.known w Code.env Symbol'4.name Symbol'4.routine Code.calls-listing·start (Met'4.met 𝓤 H 𝓜 𝓖 𝓡)) (Reads''.known w Code.env Symbol''.name Symbol''.routine Code.calls-listing·item-of (Met''.met 𝓤 H 𝓜 𝓖 𝓡)) (Reads'3.known w Code.env Symbol'3.name Symbol'3.routine Code.calls-listing·profile-of (Met'3.met 𝓤 H 𝓜 𝓖 𝓡)) (Reads'6.known w Code.env Symbol'5.name Symbol'5.routine Code.calls-table·feed·feed-sound (Met'5.met 𝓤 H 𝓜 𝓖 𝓡)) (Reads.known w Code.env Symbol.name Symbol.routine Code.calls-listing·advance (Met.met 𝓤 H 𝓜 𝓖 𝓡)) (Reads'.known w Code.env Symbol'.name Symbol'.routine Code.calls-listing·finish (Met'.met 𝓤 H 𝓜 𝓖 𝓡))

@@ -27,7 +27,7 @@ loop-again c =
       omega arith,
       omega arith,
       simp length-set (l .loop .inv .2),
-      rw (c .is-sound-entry .ensures, c .before .count-of .ensures .0, c .before .before .call-of .ensures) (surveyed-on t (l .loop .ok) (l .loop .calls) (l .loop .n) (l .loop .i) (l .loop .inv .3) (omega arith) (omega arith)),
+      rw (c .is-sound-slot .ensures, c .before .count-of .ensures .0, c .before .before .call-of .ensures) (surveyed-on t (l .loop .ok) (l .loop .calls) (l .loop .n) (l .loop .i) (l .loop .inv .3) (omega arith) (omega arith)),
     )
 
 slice-aggregate-is-once : tie.Need-slice-aggregate-is-once Inv-loop μ-loop

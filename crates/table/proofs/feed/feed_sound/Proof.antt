@@ -15,19 +15,19 @@ locate-requires : tie.Need-locate-requires
 locate-requires c κs = let s = c .before .before .before .before in sound-size (s .args .table .now) (s .args .item .now) (s .args .profile .now) (s .pre)
 
 -- the place that was found stands in the table
-placed : (p : tie.After-place-of) → p .place-of .result < 64
+placed : (p : tie.After-slot-of) → p .slot-of .result < 64
 placed p =
     let s = p .before .before .before .before .before .before in
-    found-inside (s .args .table .now) (s .args .item .now) (s .args .profile .now) (s .pre) _ _ _ (p .before .before .before .call-in .ensures) (p .before .locate .ensures) (p .place-of .ensures)
+    found-inside (s .args .table .now) (s .args .item .now) (s .args .profile .now) (s .pre) _ _ _ (p .before .before .before .call-in .ensures) (p .before .locate .ensures) (p .slot-of .ensures)
 
-size : (p : tie.After-place-of) → length (p .before .before .before .before .before .before .args .table .now) ≡ 64
+size : (p : tie.After-slot-of) → length (p .before .before .before .before .before .before .args .table .now) ≡ 64
 size p = let s = p .before .before .before .before .before .before in sound-size (s .args .table .now) (s .args .item .now) (s .args .profile .now) (s .pre)
 
 returns : tie.Need-returns
 returns c =
     let p = c .before .before .before .before in
     let s = p .before .before .before .before .before .before in
-    rw (c .answer-of .ensures, c .before .entry-after .ensures, c .before .before .act .ensures, p .place-of .ensures, p .before .locate .ensures, p .before .before .before .call-in .ensures)
+    rw (c .answer-of .ensures, c .before .slot-after .ensures, c .before .before .act .ensures, p .slot-of .ensures, p .before .locate .ensures, p .before .before .before .call-in .ensures)
     (fed-stays (s .args .table .now) _ (s .args .item .now) (s .args .profile .now) _ (s .pre) (acts (s .args .table .now) (s .args .item .now) (s .args .profile .now) (s .pre)))
 
 pub feed-sound-spec : {M : Type 1} → statement M

@@ -12,7 +12,7 @@ returns : tie.Need-returns
 returns c = room-left _ _ (c .if1 .taken)
 
 returns-2 : tie.Need-returns-2
-returns-2 c = let a = c .before .args in rw (lt-leb (a .at + 128) (length (a .out .now)) (omega arith))
+returns-2 c = let a = c .before .args in rw (lt-leb (a .at) (length (a .out .now)) (c .if1 .left), lt-leb (a .at + 128) (length (a .out .now)) (omega arith))
 
 pub has-room-spec : {M : Type 1} → statement M
 has-room-spec =

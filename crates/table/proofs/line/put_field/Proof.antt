@@ -6,7 +6,7 @@ use Rattle.table.proofs.line.put_field.Statement.{statement}
 use Rattle.table.proofs.line.put_field.Tie as tie
 
 put-number-requires : tie.Need-put-number-requires
-put-number-requires c κs = omega (arith, few-digits 19 (c .before .before .before .before .before .before .before .args .n) (omega arith))
+put-number-requires c κs = let name = c .before .before .before in omega (arith, few-digits 19 (name .before .before .before .before .args .n) (omega arith))
 
 returns : tie.Need-returns
 returns c = both (c .before .before .before .before .before .before .put .ensures) (c .before .before .put-number .ensures)

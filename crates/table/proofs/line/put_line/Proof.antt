@@ -11,7 +11,10 @@ put-number-requires c κs = omega (arith, few-digits 19 (c .before .before .args
 
 returns : tie.Need-returns
 unfolding lineOf
-returns c = wider 128 (omega arith) (both (c .before .before .before .before .before .before .before .before .before .before .before .put-number .ensures) (both (c .before .before .before .before .before .before .before .put-answer .ensures) (c .before .before .put .ensures)))
+returns c =
+    let end = c .before .before in
+    let answer = end .before .before .before .before .before in
+    wider 128 (omega arith) (both (answer .before .before .before .before .put-number .ensures) (both (answer .put-answer .ensures) (end .put .ensures)))
 
 pub put-line-spec : {M : Type 1} → statement M
 put-line-spec =

@@ -5,7 +5,10 @@ use Rattle.table.proofs.line.put_reports.Statement.{statement}
 use Rattle.table.proofs.line.put_reports.Tie as tie
 
 returns : tie.Need-returns
-returns c = both (c .before .before .before .before .before .before .before .before .before .before .before .before .put-report .ensures) (both (c .before .before .before .before .before .before .before .put-charge .ensures) (c .before .before .put-charge2 .ensures))
+returns c =
+    let charge2 = c .before .before in
+    let charge1 = charge2 .before .before .before .before .before in
+    both (charge1 .before .before .before .before .before .put-event .ensures) (both (charge1 .put-charge .ensures) (charge2 .put-charge2 .ensures))
 
 pub put-reports-spec : {M : Type 1} → statement M
 put-reports-spec =

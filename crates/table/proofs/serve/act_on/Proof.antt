@@ -8,4 +8,4 @@ act-on-spec =
     tie.close
     (tie.spec (search needs) (search needs) (search needs) (search needs)
     (λ c. rw (c .set-up .ensures, c .before .«open» .ensures, ← c .before .before .before .is-setup .ensures, c .before .before .if1 .taken))
-    (λ c. rw (c .meet .ensures, ← c .before .before .is-setup .ensures, c .before .if1 .left)))
+    (λ c. rw (c .respond-at .ensures, ← c .before .before .is-setup .ensures, c .before .if1 .left)))

@@ -236,7 +236,7 @@ abbrev b18 : Body
 b18 = seq (call "tables::profile_of" ((copy (place 1 [])) ∷ []) (place 11 [])) (seq (call "table::feed::feed" ((copy (place 9 [])) ∷ (copy (place 10 [])) ∷ (copy (place 11 [])) ∷ []) (place 6 [])) (seq (assign (place 12 []) (addrOf (place 2 ((field 0) ∷ (deref (tyInt w8)) ∷ [])))) (seq (assign (place 13 []) (aggregate ((copy (place 12 [])) ∷ (copy (place 2 ((field 1) ∷ []))) ∷ []))) b14)))
 
 abbrev b24 : Body
-b24 = seq (call "tables::entries_of" ((copy (place 1 [])) ∷ []) (place 7 [])) (seq (assign (place 4 []) (rvOpd (copy (place 7 [])))) (seq (call "tables::count_of" ((copy (place 1 [])) ∷ []) (place 5 [])) (seq (assign (place 8 []) (addrOf (place 4 []))) (seq (assign (place 9 []) (aggregate ((copy (place 8 [])) ∷ (copy (place 5 [])) ∷ []))) (seq (call "tables::item_of" ((copy (place 1 [])) ∷ []) (place 10 [])) b18)))))
+b24 = seq (call "tables::slots_of" ((copy (place 1 [])) ∷ []) (place 7 [])) (seq (assign (place 4 []) (rvOpd (copy (place 7 [])))) (seq (call "tables::count_of" ((copy (place 1 [])) ∷ []) (place 5 [])) (seq (assign (place 8 []) (addrOf (place 4 []))) (seq (assign (place 9 []) (aggregate ((copy (place 8 [])) ∷ (copy (place 5 [])) ∷ []))) (seq (call "tables::item_of" ((copy (place 1 [])) ∷ []) (place 10 [])) b18)))))
 
 abbrev body : Body
 body = b24
@@ -458,7 +458,7 @@ module _ (claims· : Claims) where
   module _ (Pre· : (κs : Lfts 2) → Dens κs ps → Type 0) (Post· : (κs : Lfts 2) → (a : Dens κs ps) → Kinds.Plain 2 ps r κs) where
     module _ (M : Type 1) where
       abbrev pub Closed : Type 2
-      Closed = (𝓤 : URA M) (H : Wp.Heap 𝓤) (A : Atoms 𝓤) (W : Given 𝓤 H A) (𝓣 : Wp.Tables 𝓤 H) (known0 : Known 𝓤 H A W 𝓣 1 ps·0 r·0 (claims· .0) (claims· .1) "tables::entries_of") (known1 : Known 𝓤 H A W 𝓣 1 ps·0 r·1 (claims· .2) (claims· .3) "tables::count_of") (known2 : Known 𝓤 H A W 𝓣 1 ps·0 r·2 (claims· .4) (claims· .5) "tables::item_of") (known3 : Known 𝓤 H A W 𝓣 1 ps·0 r·2 (claims· .6) (claims· .7) "tables::profile_of") (known4 : Known 𝓤 H A W 𝓣 3 ps·4 r·4 (claims· .8) (claims· .9) "table::feed::feed") (known5 : Known 𝓤 H A W 𝓣 1 ps·5 r·1 (claims· .10) (claims· .11) "tables::put_answer") → Triple 𝓤 (Wp.WpFn 𝓤 H (𝓣 .C) (𝓣 .Λ) (fnOf 2 ps r xs m hs body)) (plainOf 𝓤 H A 2 ps r Pre· Post·)
+      Closed = (𝓤 : URA M) (H : Wp.Heap 𝓤) (A : Atoms 𝓤) (W : Given 𝓤 H A) (𝓣 : Wp.Tables 𝓤 H) (known0 : Known 𝓤 H A W 𝓣 1 ps·0 r·0 (claims· .0) (claims· .1) "tables::slots_of") (known1 : Known 𝓤 H A W 𝓣 1 ps·0 r·1 (claims· .2) (claims· .3) "tables::count_of") (known2 : Known 𝓤 H A W 𝓣 1 ps·0 r·2 (claims· .4) (claims· .5) "tables::item_of") (known3 : Known 𝓤 H A W 𝓣 1 ps·0 r·2 (claims· .6) (claims· .7) "tables::profile_of") (known4 : Known 𝓤 H A W 𝓣 3 ps·4 r·4 (claims· .8) (claims· .9) "table::feed::feed") (known5 : Known 𝓤 H A W 𝓣 1 ps·5 r·1 (claims· .10) (claims· .11) "tables::put_answer") → Triple 𝓤 (Wp.WpFn 𝓤 H (𝓣 .C) (𝓣 .Λ) (fnOf 2 ps r xs m hs body)) (plainOf 𝓤 H A 2 ps r Pre· Post·)
 
     module _ where
       abbrev at8 : TF T24 O0
@@ -493,7 +493,7 @@ module _ (claims· : Claims) where
 
       module _ {M : Type 1} (𝓤 : URA M) (H : Wp.Heap 𝓤) (A : Atoms 𝓤) (W : Given 𝓤 H A) (𝓣 : Wp.Tables 𝓤 H) where
         abbrev Knowns : Type 1
-        Knowns = Known 𝓤 H A W 𝓣 1 ps·0 r·0 (claims· .0) (claims· .1) "tables::entries_of" × Known 𝓤 H A W 𝓣 1 ps·0 r·1 (claims· .2) (claims· .3) "tables::count_of" × Known 𝓤 H A W 𝓣 1 ps·0 r·2 (claims· .4) (claims· .5) "tables::item_of" × Known 𝓤 H A W 𝓣 1 ps·0 r·2 (claims· .6) (claims· .7) "tables::profile_of" × Known 𝓤 H A W 𝓣 3 ps·4 r·4 (claims· .8) (claims· .9) "table::feed::feed" × Known 𝓤 H A W 𝓣 1 ps·5 r·1 (claims· .10) (claims· .11) "tables::put_answer"
+        Knowns = Known 𝓤 H A W 𝓣 1 ps·0 r·0 (claims· .0) (claims· .1) "tables::slots_of" × Known 𝓤 H A W 𝓣 1 ps·0 r·1 (claims· .2) (claims· .3) "tables::count_of" × Known 𝓤 H A W 𝓣 1 ps·0 r·2 (claims· .4) (claims· .5) "tables::item_of" × Known 𝓤 H A W 𝓣 1 ps·0 r·2 (claims· .6) (claims· .7) "tables::profile_of" × Known 𝓤 H A W 𝓣 3 ps·4 r·4 (claims· .8) (claims· .9) "table::feed::feed" × Known 𝓤 H A W 𝓣 1 ps·5 r·1 (claims· .10) (claims· .11) "tables::put_answer"
 
       module _ (κs : Lfts 2) (qs : Shares 2) where
         abbrev ℓ·0 : Life
@@ -585,7 +585,7 @@ module _ (claims· : Claims) where
           d21 = then W (t-call-plain 𝓤 H A W 𝓣 1 ps·0 r·2 (claims· .6) (claims· .7) "tables::profile_of" (known .3) E (λ pos β. β) G11 (record { pos = 1; ty = tyRef (named 0) imm (tyInt w8); ref = λ x. x }, tt) 11 (0 ∷ []) (sub-id 𝓤 H A W (G11 .slots)) (spares-sslice 𝓤 H A W u8 ty·4 0, reads-sslice 𝓤 H A W u8 ty·4 0, refl, tt) (room-gone 𝓤 H A ty·0) (tt, tt) (refl, λ b o k. tt)) (then W (t-call-plain 𝓤 H A W 𝓣 3 ps·4 r·4 (claims· .8) (claims· .9) "table::feed::feed" (known .4) E (λ pos β. β) G12 (record { pos = 9; ty = tyRef erased mut Elem.pointed; ref = λ x. x }, (record { pos = 10; ty = tyRef erased imm (tyInt w8); ref = λ x. x }, (record { pos = 11; ty = tyRef erased imm (tyInt w8); ref = λ x. x }, tt))) 6 (2 ∷ 0 ∷ 0 ∷ []) (sub-id 𝓤 H A W (G12 .slots)) (as-is 𝓤 H A (mslice Elem.row ty·9 2), reads-mslice 𝓤 H A W Elem.row ty·9 2, refl, (spares-sslice 𝓤 H A W u8 ty·8 0, reads-sslice 𝓤 H A W u8 ty·8 0, refl, (spares-sslice 𝓤 H A W u8 ty·8 0, reads-sslice 𝓤 H A W u8 ty·8 0, refl, tt))) (room-gone 𝓤 H A Laws.mir) (tt, (tt, (tt, tt))) refl) (Joins.pre W (g-room 𝓤 H A W E (cx t10 ls·1) 10 ty·0 (room-sslice 𝓤 H A W u8 ty·8 0)) (Joins.pre W (g-room 𝓤 H A W E (cx t11 ls·1) 11 ty·0 (room-sslice 𝓤 H A W u8 ty·8 0)) (Joins.pre W (g-end 𝓤 H A W E (cx t12 ls·1) 2 refl) (Joins.pre W (Share.g-back-arrᵖ 𝓤 H A W E Elem.row (cx t12 ls·2) 9 4 2 100 ty·9 (λ x. x) (λ x. x) (as-is 𝓤 H A (msleft Elem.row ty·9)) (as-is 𝓤 H A (arr-owedP Elem.row 100 2)) refl) (Joins.pre W (g-forget 𝓤 H A W E (cx t13 ls·2) 2 dead refl) (Joins.pre W (g-begin 𝓤 H A W E (cx t13 ls·4) 3 (tt, (tt, (tt, (tt, (tt, (tt, (tt, (tt, (tt, (tt, (tt, (tt, (tt, (tt, tt))))))))))))))) (then W (Relend.t-sl-relend 𝓤 H A W E u8 𝓣 (cx t13 (ℓ·0 ∷ ℓ·1 ∷ off ∷ alive ∷ [])) 2 12 1 3 ty·3 ty·2 ℓ·1 0 (λ x. x) (as-is 𝓤 H A (mslice u8 ty·3 1)) (room-gone 𝓤 H A ty·2) refl tt refl refl refl λ b o. tt) (then W (Relend.t-sl-aggregate 𝓤 H A W E u8 𝓣 (asMut u8) G20 12 13 3 ty·2 ty·2 (λ x. x) (oFld 2 ((field 1) ∷ []) (tyInt w64) 8 λ v. lenV (v .0)) (as-is 𝓤 H A (msptr u8 ty·2 3)) (room-gone 𝓤 H A ty·6) (Relend.reads-owed-len 𝓤 H A W u8 ty·3 1 3 ℓ·1 8 refl, refl) refl refl λ b o k. tt) d11)))))))))
 
           d29 : Does G0 b24 Δ0 at29
-          d29 = then W (t-call-plain 𝓤 H A W 𝓣 1 ps·0 r·0 (claims· .0) (claims· .1) "tables::entries_of" (known .0) E (λ pos β. β) G0 (record { pos = 1; ty = tyRef (named 0) imm (tyInt w8); ref = λ x. x }, tt) 7 (0 ∷ []) (sub-id 𝓤 H A W (G0 .slots)) (spares-sslice 𝓤 H A W u8 ty·4 0, reads-sslice 𝓤 H A W u8 ty·4 0, refl, tt) (room-gone 𝓤 H A ty·7) (tt, tt) refl) (then W (t-val-copy 𝓤 H A W E 𝓣 (λ ρ. Unit) G4 7 4 (Array'.Array Elem.row 100) ty·7 ty·7 (arrF Elem.row 100 0) (arrF Elem.row 100 0) (λ x. x) (λ x. x) (λ x. x) refl (Own.told-none 𝓤 H A (G4 .slots)) (Yields.yields-copy 𝓤 H A W (λ ρ. Unit) (Array'.Array Elem.row 100) refl (cArr Elem.row Elem.copies 100 .copy 𝓤 H A W) (arrF Elem.row 100 0) (λ x. x) (λ x. x) (λ ρ told. mem-arr 𝓤 H A W Elem.row 100 ρ) λ ρ told. arr-mem 𝓤 H A W Elem.row 100 tt ρ) (room-gone 𝓤 H A ty·7) (Yields.makes-mem 𝓤 H A W (λ ρ. Unit) (Array'.Array Elem.row 100) refl (arrF Elem.row 100 0) (λ x. x) λ ρ told. arr-mem 𝓤 H A W Elem.row 100 tt ρ) refl refl) (Joins.pre W (g-room 𝓤 H A W E (cx t3 ls·4) 7 ty·7 (Init.room-arr 𝓤 H A W Elem.row 100 0 100 refl)) (then W (t-call-plain 𝓤 H A W 𝓣 1 ps·0 r·1 (claims· .2) (claims· .3) "tables::count_of" (known .1) E (λ pos β. β) G6 (record { pos = 1; ty = tyRef (named 0) imm (tyInt w8); ref = λ x. x }, tt) 5 (0 ∷ []) (sub-id 𝓤 H A W (G6 .slots)) (spares-sslice 𝓤 H A W u8 ty·4 0, reads-sslice 𝓤 H A W u8 ty·4 0, refl, tt) (room-gone 𝓤 H A (tyInt w64)) (tt, tt) refl) (Joins.pre W (g-begin 𝓤 H A W E G7 2 (tt, (tt, (tt, (tt, (tt, (tt, (tt, (tt, (tt, (tt, (tt, (tt, (tt, (tt, tt))))))))))))))) (then W (Share.t-arr-borrowᵖ 𝓤 H A W E 𝓣 Elem.row G8 4 8 100 2 ty·5 (λ x. x) (λ u. u .1 .1 .1 .1 .1 .0) (as-is 𝓤 H A (arrF Elem.row 100 0)) (room-gone 𝓤 H A ty·5) refl (λ b o. tt) (lit< tt, lit< tt)) (then W (Relend.t-sl-aggregate 𝓤 H A W E Elem.row 𝓣 (asMut Elem.row) G9 8 9 2 ty·5 ty·9 (λ x. x) (oAt 5 (tyInt w64) (valS (sInt w64))) (as-is 𝓤 H A (msptr Elem.row ty·5 2)) (room-gone 𝓤 H A ty·1) (reads-sc 𝓤 H A W (sInt w64), refl) refl refl λ b o k. tt) (then W (t-call-plain 𝓤 H A W 𝓣 1 ps·0 r·2 (claims· .4) (claims· .5) "tables::item_of" (known .2) E (λ pos β. β) G10 (record { pos = 1; ty = tyRef (named 0) imm (tyInt w8); ref = λ x. x }, tt) 10 (0 ∷ []) (sub-id 𝓤 H A W (G10 .slots)) (spares-sslice 𝓤 H A W u8 ty·4 0, reads-sslice 𝓤 H A W u8 ty·4 0, refl, tt) (room-gone 𝓤 H A ty·0) (tt, tt) (refl, λ b o k. tt)) d21)))))))
+          d29 = then W (t-call-plain 𝓤 H A W 𝓣 1 ps·0 r·0 (claims· .0) (claims· .1) "tables::slots_of" (known .0) E (λ pos β. β) G0 (record { pos = 1; ty = tyRef (named 0) imm (tyInt w8); ref = λ x. x }, tt) 7 (0 ∷ []) (sub-id 𝓤 H A W (G0 .slots)) (spares-sslice 𝓤 H A W u8 ty·4 0, reads-sslice 𝓤 H A W u8 ty·4 0, refl, tt) (room-gone 𝓤 H A ty·7) (tt, tt) refl) (then W (t-val-copy 𝓤 H A W E 𝓣 (λ ρ. Unit) G4 7 4 (Array'.Array Elem.row 100) ty·7 ty·7 (arrF Elem.row 100 0) (arrF Elem.row 100 0) (λ x. x) (λ x. x) (λ x. x) refl (Own.told-none 𝓤 H A (G4 .slots)) (Yields.yields-copy 𝓤 H A W (λ ρ. Unit) (Array'.Array Elem.row 100) refl (cArr Elem.row Elem.copies 100 .copy 𝓤 H A W) (arrF Elem.row 100 0) (λ x. x) (λ x. x) (λ ρ told. mem-arr 𝓤 H A W Elem.row 100 ρ) λ ρ told. arr-mem 𝓤 H A W Elem.row 100 tt ρ) (room-gone 𝓤 H A ty·7) (Yields.makes-mem 𝓤 H A W (λ ρ. Unit) (Array'.Array Elem.row 100) refl (arrF Elem.row 100 0) (λ x. x) λ ρ told. arr-mem 𝓤 H A W Elem.row 100 tt ρ) refl refl) (Joins.pre W (g-room 𝓤 H A W E (cx t3 ls·4) 7 ty·7 (Init.room-arr 𝓤 H A W Elem.row 100 0 100 refl)) (then W (t-call-plain 𝓤 H A W 𝓣 1 ps·0 r·1 (claims· .2) (claims· .3) "tables::count_of" (known .1) E (λ pos β. β) G6 (record { pos = 1; ty = tyRef (named 0) imm (tyInt w8); ref = λ x. x }, tt) 5 (0 ∷ []) (sub-id 𝓤 H A W (G6 .slots)) (spares-sslice 𝓤 H A W u8 ty·4 0, reads-sslice 𝓤 H A W u8 ty·4 0, refl, tt) (room-gone 𝓤 H A (tyInt w64)) (tt, tt) refl) (Joins.pre W (g-begin 𝓤 H A W E G7 2 (tt, (tt, (tt, (tt, (tt, (tt, (tt, (tt, (tt, (tt, (tt, (tt, (tt, (tt, tt))))))))))))))) (then W (Share.t-arr-borrowᵖ 𝓤 H A W E 𝓣 Elem.row G8 4 8 100 2 ty·5 (λ x. x) (λ u. u .1 .1 .1 .1 .1 .0) (as-is 𝓤 H A (arrF Elem.row 100 0)) (room-gone 𝓤 H A ty·5) refl (λ b o. tt) (lit< tt, lit< tt)) (then W (Relend.t-sl-aggregate 𝓤 H A W E Elem.row 𝓣 (asMut Elem.row) G9 8 9 2 ty·5 ty·9 (λ x. x) (oAt 5 (tyInt w64) (valS (sInt w64))) (as-is 𝓤 H A (msptr Elem.row ty·5 2)) (room-gone 𝓤 H A ty·1) (reads-sc 𝓤 H A W (sInt w64), refl) refl refl λ b o k. tt) (then W (t-call-plain 𝓤 H A W 𝓣 1 ps·0 r·2 (claims· .4) (claims· .5) "tables::item_of" (known .2) E (λ pos β. β) G10 (record { pos = 1; ty = tyRef (named 0) imm (tyInt w8); ref = λ x. x }, tt) 10 (0 ∷ []) (sub-id 𝓤 H A W (G10 .slots)) (spares-sslice 𝓤 H A W u8 ty·4 0, reads-sslice 𝓤 H A W u8 ty·4 0, refl, tt) (room-gone 𝓤 H A ty·0) (tt, tt) (refl, λ b o k. tt)) d21)))))))
 
           pub typed : Typed 𝓤 H A 𝓣 E (Γin 2 ps r xs m κs qs) b24 (Δret 2 ps r xs m κs qs) Φ
           typed = Joins.pre W (Know.g-shs-known 𝓤 H A W (fInt w8) E G0 1 0 ty·4 ℓ·0 0 (λ x. x) record { fits = lit< tt } (as-is 𝓤 H A (sslice u8 ty·4 0)) refl tt) (Joins.pre W (Know.g-sl-known 𝓤 H A W (fInt w8) E G0 2 1 ty·3 ℓ·1 0 (λ x. x) record { fits = lit< tt } (as-is 𝓤 H A (mslice u8 ty·3 1)) refl tt) d29)
@@ -644,66 +644,66 @@ module _ (claims· : Claims) where
         pub before : After-shared-slice-known
         pub slice-known : After-slice-known·own before
 
-      abbrev pub Need-entries-of-requires : Type 0
-      Need-entries-of-requires = (c : After-slice-known) → s2 .asks (m2 (c .before) (c .slice-known .given))
+      abbrev pub Need-slots-of-requires : Type 0
+      Need-slots-of-requires = (c : After-slice-known) → s2 .asks (m2 (c .before) (c .slice-known .given))
 
       abbrev m3 : (before : After-slice-known) → (given : s2 .gives (m2 (before .before) (before .slice-known .given))) → Mo T4
       m3 = λ before given. s2 .next (m2 (before .before) (before .slice-known .given)) given
 
-      pub record After-entries-of : Type 0 where
+      pub record After-slots-of : Type 0 where
         pub before : After-slice-known
-        pub entries-of : Called ps·0 r·0 (claims· .1) T0 args·0 (m2 (before .before) (before .slice-known .given))
+        pub slots-of : Called ps·0 r·0 (claims· .1) T0 args·0 (m2 (before .before) (before .slice-known .given))
 
-      abbrev After-entries-of·gave : (c : After-entries-of) → s2 .gives (m2 (c .before .before) (c .before .slice-known .given))
-      After-entries-of·gave = λ c. gave (c .entries-of)
+      abbrev After-slots-of·gave : (c : After-slots-of) → s2 .gives (m2 (c .before .before) (c .before .slice-known .given))
+      After-slots-of·gave = λ c. gave (c .slots-of)
 
       abbrev m5 : (before : After-slice-known) → (given : s2 .gives (m2 (before .before) (before .slice-known .given))) → Mo T6
       m5 = λ before given. s4 (s3 (m3 before given))
 
       abbrev pub Need-count-of-requires : Type 0
-      Need-count-of-requires = (c : After-entries-of) → s5 .asks (m5 (c .before) (After-entries-of·gave c))
+      Need-count-of-requires = (c : After-slots-of) → s5 .asks (m5 (c .before) (After-slots-of·gave c))
 
-      abbrev m6 : (before : After-entries-of) → (given : s5 .gives (m5 (before .before) (After-entries-of·gave before))) → Mo T7
-      m6 = λ before given. s5 .next (m5 (before .before) (After-entries-of·gave before)) given
+      abbrev m6 : (before : After-slots-of) → (given : s5 .gives (m5 (before .before) (After-slots-of·gave before))) → Mo T7
+      m6 = λ before given. s5 .next (m5 (before .before) (After-slots-of·gave before)) given
 
       pub record After-count-of : Type 0 where
-        pub before : After-entries-of
-        pub count-of : Called ps·0 r·1 (claims· .3) T6 args·1 (m5 (before .before) (After-entries-of·gave before))
+        pub before : After-slots-of
+        pub count-of : Called ps·0 r·1 (claims· .3) T6 args·1 (m5 (before .before) (After-slots-of·gave before))
 
-      abbrev After-count-of·gave : (c : After-count-of) → s5 .gives (m5 (c .before .before) (After-entries-of·gave (c .before)))
+      abbrev After-count-of·gave : (c : After-count-of) → s5 .gives (m5 (c .before .before) (After-slots-of·gave (c .before)))
       After-count-of·gave = λ c. gave (c .count-of)
 
-      abbrev pub Need-array-borrow-prefix-entries : Type 0
-      Need-array-borrow-prefix-entries = (c : After-count-of) → s7 .asks (m6 (c .before) (After-count-of·gave c))
+      abbrev pub Need-array-borrow-prefix-slots : Type 0
+      Need-array-borrow-prefix-slots = (c : After-count-of) → s7 .asks (m6 (c .before) (After-count-of·gave c))
 
       abbrev m7 : (before : After-count-of) → (given : s7 .gives (m6 (before .before) (After-count-of·gave before))) → Mo T9
       m7 = λ before given. s7 .next (m6 (before .before) (After-count-of·gave before)) given
 
       module _ (before· : After-count-of) where
-        pub record After-entries·own : Type 0 where
+        pub record After-slots·own : Type 0 where
           pub given : s7 .gives (m6 (before· .before) (After-count-of·gave before·))
 
-      pub record After-entries : Type 0 where
+      pub record After-slots : Type 0 where
         pub before : After-count-of
-        pub entries : After-entries·own before
+        pub slots : After-slots·own before
 
       abbrev pub Need-slice-aggregate-feed : Type 0
-      Need-slice-aggregate-feed = (c : After-entries) → Relend.CountIs T9 8 9 (λ x. x) (λ u. u .1 .1 .1 .1 .1 .0) (m7 (c .before) (c .entries .given))
+      Need-slice-aggregate-feed = (c : After-slots) → Relend.CountIs T9 8 9 (λ x. x) (λ u. u .1 .1 .1 .1 .1 .0) (m7 (c .before) (c .slots .given))
 
       abbrev m8 : (before : After-count-of) → (given : s7 .gives (m6 (before .before) (After-count-of·gave before))) → Mo T10
       m8 = λ before given. s8 .next (m7 before given)
 
       abbrev pub Need-item-of-requires : Type 0
-      Need-item-of-requires = (c : After-entries) → s9 .asks (m8 (c .before) (c .entries .given))
+      Need-item-of-requires = (c : After-slots) → s9 .asks (m8 (c .before) (c .slots .given))
 
-      abbrev m9 : (before : After-entries) → (given : s9 .gives (m8 (before .before) (before .entries .given))) → Mo T11
-      m9 = λ before given. s9 .next (m8 (before .before) (before .entries .given)) given
+      abbrev m9 : (before : After-slots) → (given : s9 .gives (m8 (before .before) (before .slots .given))) → Mo T11
+      m9 = λ before given. s9 .next (m8 (before .before) (before .slots .given)) given
 
       pub record After-item-of : Type 0 where
-        pub before : After-entries
-        pub item-of : Called ps·0 r·2 (claims· .5) T10 args·2 (m8 (before .before) (before .entries .given))
+        pub before : After-slots
+        pub item-of : Called ps·0 r·2 (claims· .5) T10 args·2 (m8 (before .before) (before .slots .given))
 
-      abbrev After-item-of·gave : (c : After-item-of) → s9 .gives (m8 (c .before .before) (c .before .entries .given))
+      abbrev After-item-of·gave : (c : After-item-of) → s9 .gives (m8 (c .before .before) (c .before .slots .given))
       After-item-of·gave = λ c. gave (c .item-of)
 
       abbrev pub Need-profile-of-requires : Type 0
@@ -739,22 +739,22 @@ module _ (claims· : Claims) where
       m14 = λ before given. s15 .next (m13 (before .before) (After-feed·gave before)) given
 
       module _ (before· : After-feed) where
-        pub record After-entries2·own : Type 0 where
+        pub record After-slots2·own : Type 0 where
           pub given : s15 .gives (m13 (before· .before) (After-feed·gave before·))
 
-      pub record After-entries2 : Type 0 where
+      pub record After-slots2 : Type 0 where
         pub before : After-feed
-        pub entries2 : After-entries2·own before
+        pub slots2 : After-slots2·own before
 
-      abbrev m18 : (before : After-entries2) → (given : s18 .gives (m14 (before .before) (before .entries2 .given))) → Mo T23
-      m18 = λ before given. s21 (s20 (s19 .next (s18 .next (m14 (before .before) (before .entries2 .given)) given)))
+      abbrev m18 : (before : After-slots2) → (given : s18 .gives (m14 (before .before) (before .slots2 .given))) → Mo T23
+      m18 = λ before given. s21 (s20 (s19 .next (s18 .next (m14 (before .before) (before .slots2 .given)) given)))
 
-      module _ (before· : After-entries2) where
+      module _ (before· : After-slots2) where
         pub record After-put-answer-arg·own : Type 0 where
-          pub given : s18 .gives (m14 (before· .before) (before· .entries2 .given))
+          pub given : s18 .gives (m14 (before· .before) (before· .slots2 .given))
 
       pub record After-put-answer-arg : Type 0 where
-        pub before : After-entries2
+        pub before : After-slots2
         pub put-answer-arg : After-put-answer-arg·own before
 
       abbrev pub Need-put-answer-requires : Type 0
@@ -801,12 +801,12 @@ module _ (claims· : Claims) where
       abbrev pub Need-returns : Type 0
       Need-returns = (c : After-slice-known2) → Returns (c .before .before .before .before .before .before .before .before .before .before .before .before .before) (m25 (c .before) (c .slice-known2 .given))
 
-      module _ (entries-of-requires : Need-entries-of-requires) (count-of-requires : Need-count-of-requires) (array-borrow-prefix-entries : Need-array-borrow-prefix-entries) (slice-aggregate-feed : Need-slice-aggregate-feed) (item-of-requires : Need-item-of-requires) (profile-of-requires : Need-profile-of-requires) (feed-requires : Need-feed-requires) (put-answer-requires : Need-put-answer-requires) (same-length : Need-same-length) (returns : Need-returns) where
+      module _ (slots-of-requires : Need-slots-of-requires) (count-of-requires : Need-count-of-requires) (array-borrow-prefix-slots : Need-array-borrow-prefix-slots) (slice-aggregate-feed : Need-slice-aggregate-feed) (item-of-requires : Need-item-of-requires) (profile-of-requires : Need-profile-of-requires) (feed-requires : Need-feed-requires) (put-answer-requires : Need-put-answer-requires) (same-length : Need-same-length) (returns : Need-returns) where
         lay6 : (c : After-put-answer) → at8 (Wanted (c .before .before .before .before .before .before .before .before .before .before .before)) (m19 (c .before) (After-put-answer·gave c))
         lay6 = λ c. (refl, λ g. λ g'. ((refl, (fix-len (get 2 (T1 .locals) (m25 record { before = c; d = record { given = g } } g') .ptr) (get 2 (T1 .locals) (m25 record { before = c; d = record { given = g } } g') .name) (get 2 (T1 .locals) (m25 record { before = c; d = record { given = g } } g') .now) (dens (c .before .before .before .before .before .before .before .before .before .before .before .κs) (c .before .before .before .before .before .before .before .before .before .before .before .args) .1 .0 .now) (same-length record { before = record { before = c; d = record { given = g } }; slice-known2 = record { given = g' } }), (tt, tt))), returns record { before = record { before = c; d = record { given = g } }; slice-known2 = record { given = g' } }))
 
         lay5 : (c : After-feed) → at19 (Wanted (c .before .before .before .before .before .before .before .before)) (m11 (c .before) (After-feed·gave c))
-        lay5 = λ c. (refl, λ g. λ g'. (refl, (put-answer-requires record { before = record { before = c; entries2 = record { given = g } }; put-answer-arg = record { given = g' } }, λ g''. lay6 record { before = record { before = record { before = c; entries2 = record { given = g } }; put-answer-arg = record { given = g' } }; put-answer = called g'' })))
+        lay5 = λ c. (refl, λ g. λ g'. (refl, (put-answer-requires record { before = record { before = c; slots2 = record { given = g } }; put-answer-arg = record { given = g' } }, λ g''. lay6 record { before = record { before = record { before = c; slots2 = record { given = g } }; put-answer-arg = record { given = g' } }; put-answer = called g'' })))
 
         lay4 : (c : After-profile-of) → at20 (Wanted (c .before .before .before .before .before .before .before)) (m10 (c .before) (After-profile-of·gave c))
         lay4 = λ c. (feed-requires c, λ g. lay5 record { before = c; feed = called g })
@@ -815,18 +815,18 @@ module _ (claims· : Claims) where
         lay3 = λ c. (profile-of-requires c, λ g. lay4 record { before = c; profile-of = called g })
 
         lay2 : (c : After-count-of) → at25 (Wanted (c .before .before .before .before)) (m6 (c .before) (After-count-of·gave c))
-        lay2 = λ c. (array-borrow-prefix-entries c, λ g. (Relend.count-is T9 8 9 (λ x. x) (λ u. u .1 .1 .1 .1 .1 .0) (m7 record { before = c .before; count-of = c .count-of } g) (slice-aggregate-feed record { before = c; entries = record { given = g } }), (item-of-requires record { before = c; entries = record { given = g } }, λ g'. lay3 record { before = record { before = c; entries = record { given = g } }; item-of = called g' })))
+        lay2 = λ c. (array-borrow-prefix-slots c, λ g. (Relend.count-is T9 8 9 (λ x. x) (λ u. u .1 .1 .1 .1 .1 .0) (m7 record { before = c .before; count-of = c .count-of } g) (slice-aggregate-feed record { before = c; slots = record { given = g } }), (item-of-requires record { before = c; slots = record { given = g } }, λ g'. lay3 record { before = record { before = c; slots = record { given = g } }; item-of = called g' })))
 
-        lay1 : (c : After-entries-of) → at28 (Wanted (c .before .before .before)) (m3 (c .before) (After-entries-of·gave c))
+        lay1 : (c : After-slots-of) → at28 (Wanted (c .before .before .before)) (m3 (c .before) (After-slots-of·gave c))
         lay1 = λ c. (count-of-requires c, λ g. lay2 record { before = c; count-of = called g })
 
         pub laid : (c : Start) → at31 (Wanted c) (m0 (c .κs) (c .args))
-        laid = λ c. λ g. λ g'. (entries-of-requires record { before = record { before = c; shared-slice-known = record { given = g } }; slice-known = record { given = g' } }, λ g''. lay1 record { before = record { before = record { before = c; shared-slice-known = record { given = g } }; slice-known = record { given = g' } }; entries-of = called g'' })
+        laid = λ c. λ g. λ g'. (slots-of-requires record { before = record { before = c; shared-slice-known = record { given = g } }; slice-known = record { given = g' } }, λ g''. lay1 record { before = record { before = record { before = c; shared-slice-known = record { given = g } }; slice-known = record { given = g' } }; slots-of = called g'' })
 
         module _ (κs : Lfts 2) (qs : Shares 2) where
           pub asked : (a : Dens κs ps) → (good : Kinds.GoodsP κs ps a) → (pre : Pre· κs a) → (bs : List ℕ) → Φ (Any.wantQ 2 ps r xs m κs qs a (Post· κs a)) (init 2 ps r xs m κs qs a)
           asked = λ a good pre bs. laid record { κs = κs; args = record { s = a .0; d = a .1 .0; number = a .1 .1 .0 }; good = good; fits = record { number = record { fits = good .1 .1 .0 .1 } }; pre = pre }
 
-        module _ {M : Type 1} (𝓤 : URA M) (H : Wp.Heap 𝓤) (A : Atoms 𝓤) (W : Given 𝓤 H A) (𝓣 : Wp.Tables 𝓤 H) (known0 : Known 𝓤 H A W 𝓣 1 ps·0 r·0 (claims· .0) (claims· .1) "tables::entries_of") (known1 : Known 𝓤 H A W 𝓣 1 ps·0 r·1 (claims· .2) (claims· .3) "tables::count_of") (known2 : Known 𝓤 H A W 𝓣 1 ps·0 r·2 (claims· .4) (claims· .5) "tables::item_of") (known3 : Known 𝓤 H A W 𝓣 1 ps·0 r·2 (claims· .6) (claims· .7) "tables::profile_of") (known4 : Known 𝓤 H A W 𝓣 3 ps·4 r·4 (claims· .8) (claims· .9) "table::feed::feed") (known5 : Known 𝓤 H A W 𝓣 1 ps·5 r·1 (claims· .10) (claims· .11) "tables::put_answer") where
+        module _ {M : Type 1} (𝓤 : URA M) (H : Wp.Heap 𝓤) (A : Atoms 𝓤) (W : Given 𝓤 H A) (𝓣 : Wp.Tables 𝓤 H) (known0 : Known 𝓤 H A W 𝓣 1 ps·0 r·0 (claims· .0) (claims· .1) "tables::slots_of") (known1 : Known 𝓤 H A W 𝓣 1 ps·0 r·1 (claims· .2) (claims· .3) "tables::count_of") (known2 : Known 𝓤 H A W 𝓣 1 ps·0 r·2 (claims· .4) (claims· .5) "tables::item_of") (known3 : Known 𝓤 H A W 𝓣 1 ps·0 r·2 (claims· .6) (claims· .7) "tables::profile_of") (known4 : Known 𝓤 H A W 𝓣 3 ps·4 r·4 (claims· .8) (claims· .9) "table::feed::feed") (known5 : Known 𝓤 H A W 𝓣 1 ps·5 r·1 (claims· .10) (claims· .11) "tables::put_answer") where
           pub spec : Triple 𝓤 (Wp.WpFn 𝓤 H (𝓣 .C) (𝓣 .Λ) (fnOf 2 ps r xs m hs body)) (plainOf 𝓤 H A 2 ps r Pre· Post·)
           spec = t-fn-plain 𝓤 H A W 𝓣 2 ps r xs m hs body (λ κs qs bs. Φ) (λ κs qs bs bd. typed κs qs 𝓤 H A W 𝓣 (known0, known1, known2, known3, known4, known5) bs bd) Pre· Post· asked

@@ -243,7 +243,7 @@ abbrev b28 : Body
 b28 = assign (place 5 []) (op2 (add unsigned) (copy (place 5 [])) (int w64 1))
 
 abbrev b32 : Body
-b32 = seq (call "table::check::count_of" ((copy (place 6 [])) ∷ []) (place 10 [])) (seq (assign (place 3 []) (op2 (add unsigned) (copy (place 3 [])) (copy (place 10 [])))) (seq (call "table::check::is_sound_entry" ((copy (place 6 [])) ∷ []) (place 9 [])) (seq (assign (place 4 []) (op2 bitAnd (copy (place 4 [])) (copy (place 9 [])))) b28)))
+b32 = seq (call "table::check::count_of" ((copy (place 6 [])) ∷ []) (place 10 [])) (seq (assign (place 3 []) (op2 (add unsigned) (copy (place 3 [])) (copy (place 10 [])))) (seq (call "table::check::is_sound_slot" ((copy (place 6 [])) ∷ []) (place 9 [])) (seq (assign (place 4 []) (op2 bitAnd (copy (place 4 [])) (copy (place 9 [])))) b28)))
 
 abbrev b38 : Body
 b38 = seq (assign (place 6 []) (rvOpd (copy (place 12 [])))) (seq (call "table::check::call_of" ((copy (place 6 [])) ∷ []) (place 13 [])) (seq (assign (place 10 []) (op2 (mul unsigned) (copy (place 3 [])) (int w64 4))) (seq (assign (place 14 []) (Syntax.addrOf (place 2 []))) (seq (assign (place 15 []) (op2 offset (copy (place 14 [])) (copy (place 10 [])))) (seq (assign (place 15 ((deref (tyInt w32)) ∷ [])) (rvOpd (copy (place 13 [])))) b32)))))
@@ -681,7 +681,7 @@ module _ (claims· : Claims) where
   module _ (Pre· : (κs : Lfts 1) → Dens κs ps → Type 0) (Post· : (κs : Lfts 1) → (a : Dens κs ps) → Kinds.Plain 1 ps r κs) where
     module _ (M : Type 1) where
       abbrev pub Closed : Type 2
-      Closed = (𝓤 : URA M) (H : Wp.Heap 𝓤) (A : Atoms 𝓤) (W : Given 𝓤 H A) (𝓣 : Wp.Tables 𝓤 H) (known0 : Known 𝓤 H A W 𝓣 0 ps·0 r·0 (claims· .0) (claims· .1) "table::check::call_of") (known1 : Known 𝓤 H A W 𝓣 0 ps·0 r·1 (claims· .2) (claims· .3) "table::check::count_of") (known2 : Known 𝓤 H A W 𝓣 0 ps·0 r·2 (claims· .4) (claims· .5) "table::check::is_sound_entry") (known3 : Known 𝓤 H A W 𝓣 1 ps·3 r (claims· .6) (claims· .7) "table::check::is_once") → Triple 𝓤 (Wp.WpFn 𝓤 H (𝓣 .C) (𝓣 .Λ) (fnOf 1 ps r xs m hs body)) (plainOf 𝓤 H A 1 ps r Pre· Post·)
+      Closed = (𝓤 : URA M) (H : Wp.Heap 𝓤) (A : Atoms 𝓤) (W : Given 𝓤 H A) (𝓣 : Wp.Tables 𝓤 H) (known0 : Known 𝓤 H A W 𝓣 0 ps·0 r·0 (claims· .0) (claims· .1) "table::check::call_of") (known1 : Known 𝓤 H A W 𝓣 0 ps·0 r·1 (claims· .2) (claims· .3) "table::check::count_of") (known2 : Known 𝓤 H A W 𝓣 0 ps·0 r·2 (claims· .4) (claims· .5) "table::check::is_sound_slot") (known3 : Known 𝓤 H A W 𝓣 1 ps·3 r (claims· .6) (claims· .7) "table::check::is_once") → Triple 𝓤 (Wp.WpFn 𝓤 H (𝓣 .C) (𝓣 .Λ) (fnOf 1 ps r xs m hs body)) (plainOf 𝓤 H A 1 ps r Pre· Post·)
 
     module _ (Inv·0 : InvT-loop) (μ·0 : MeasureT-loop) where
       abbrev held·0 : Mo T13 → (arrF (rtF (fInt w32)) 64 0 .Mod × sc-here (sInt w64) .Mod × sc-here sBool .Mod × sc-here (sInt w64) .Mod) → Type 0
@@ -758,7 +758,7 @@ module _ (claims· : Claims) where
 
       module _ {M : Type 1} (𝓤 : URA M) (H : Wp.Heap 𝓤) (A : Atoms 𝓤) (W : Given 𝓤 H A) (𝓣 : Wp.Tables 𝓤 H) where
         abbrev Knowns : Type 1
-        Knowns = Known 𝓤 H A W 𝓣 0 ps·0 r·0 (claims· .0) (claims· .1) "table::check::call_of" × Known 𝓤 H A W 𝓣 0 ps·0 r·1 (claims· .2) (claims· .3) "table::check::count_of" × Known 𝓤 H A W 𝓣 0 ps·0 r·2 (claims· .4) (claims· .5) "table::check::is_sound_entry" × Known 𝓤 H A W 𝓣 1 ps·3 r (claims· .6) (claims· .7) "table::check::is_once"
+        Knowns = Known 𝓤 H A W 𝓣 0 ps·0 r·0 (claims· .0) (claims· .1) "table::check::call_of" × Known 𝓤 H A W 𝓣 0 ps·0 r·1 (claims· .2) (claims· .3) "table::check::count_of" × Known 𝓤 H A W 𝓣 0 ps·0 r·2 (claims· .4) (claims· .5) "table::check::is_sound_slot" × Known 𝓤 H A W 𝓣 1 ps·3 r (claims· .6) (claims· .7) "table::check::is_once"
 
       module _ (κs : Lfts 1) (qs : Shares 1) where
         abbrev ℓ·0 : Life
@@ -886,7 +886,7 @@ module _ (claims· : Claims) where
           Does = Typed.Typed 𝓤 H A 𝓣 E
 
           d22 : Does G30 b32 Δ4 at22
-          d22 = Joins.pre W (g-room 𝓤 H A W E G30 10 (tyInt w64) (room-sc 𝓤 H A W (sInt w64))) (Joins.pre W (g-room 𝓤 H A W E G32 13 (tyInt w32) (room-sc 𝓤 H A W (sInt w32))) (Joins.pre W (g-room 𝓤 H A W E G33 15 tyPtr (room-sc 𝓤 H A W sPtr)) (then W (t-call-plain 𝓤 H A W 𝓣 0 ps·0 r·1 (claims· .2) (claims· .3) "table::check::count_of" (known .1) E (λ pos β. β) G25 (record { pos = 6; st = []; d = 0; at = λ x. x }, tt) 10 [] (sub-id 𝓤 H A W (G25 .slots)) ((yields W Elem.row refl Elem.copies, refl), tt) (room-gone 𝓤 H A (tyInt w64)) tt refl) (then W (t-op2 𝓤 H A W E 𝓣 G35 (add unsigned) (oAt 3 (tyInt w64) (valS (sInt w64))) (oAt 10 (tyInt w64) (valS (sInt w64))) 3 (sc-here (sInt w64)) (tyInt w64) (valS (sInt w64)) (sInt w64 .of) (reads-sc 𝓤 H A W (sInt w64), refl) (reads-sc 𝓤 H A W (sInt w64), refl) (room-sc 𝓤 H A W (sInt w64)) (holds-sc 𝓤 H A W (sInt w64)) refl (λ u. refl) λ u. tt) (Joins.pre W (g-room 𝓤 H A W E G35 10 (tyInt w64) (room-sc 𝓤 H A W (sInt w64))) (then W (t-call-plain 𝓤 H A W 𝓣 0 ps·0 r·2 (claims· .4) (claims· .5) "table::check::is_sound_entry" (known .2) E (λ pos β. β) G25 (record { pos = 6; st = []; d = 0; at = λ x. x }, tt) 9 [] (sub-id 𝓤 H A W (G25 .slots)) ((yields W Elem.row refl Elem.copies, refl), tt) (room-gone 𝓤 H A tyBool) tt refl) (Joins.pre W (g-room 𝓤 H A W E G38 6 Elem.ty (Local″.room-whole 𝓤 H A W Elem.row Elem.ty refl)) (then W (t-op2 𝓤 H A W E 𝓣 G15 bitAnd (oAt 4 tyBool (valS sBool)) (oAt 9 tyBool (valS sBool)) 4 (sc-here sBool) tyBool (valS sBool) (sBool .of) (reads-sc 𝓤 H A W sBool, refl) (reads-sc 𝓤 H A W sBool, refl) (room-sc 𝓤 H A W sBool) (holds-sc 𝓤 H A W sBool) refl (λ u. refl) λ u. tt) (Joins.pre W (g-room 𝓤 H A W E G15 9 tyBool (room-sc 𝓤 H A W sBool)) (Typed.s-typed 𝓤 H A W 𝓣 E G13 b28 Δ4 (ask s37) tt (t-op2 𝓤 H A W E 𝓣 G13 (add unsigned) (oAt 5 (tyInt w64) (valS (sInt w64))) (oInt w64 1) 5 (sc-here (sInt w64)) (tyInt w64) (valS (sInt w64)) (sInt w64 .of) (reads-sc 𝓤 H A W (sInt w64), refl) tt (room-sc 𝓤 H A W (sInt w64)) (holds-sc 𝓤 H A W (sInt w64)) refl (λ u. refl) λ u. tt)))))))))))
+          d22 = Joins.pre W (g-room 𝓤 H A W E G30 10 (tyInt w64) (room-sc 𝓤 H A W (sInt w64))) (Joins.pre W (g-room 𝓤 H A W E G32 13 (tyInt w32) (room-sc 𝓤 H A W (sInt w32))) (Joins.pre W (g-room 𝓤 H A W E G33 15 tyPtr (room-sc 𝓤 H A W sPtr)) (then W (t-call-plain 𝓤 H A W 𝓣 0 ps·0 r·1 (claims· .2) (claims· .3) "table::check::count_of" (known .1) E (λ pos β. β) G25 (record { pos = 6; st = []; d = 0; at = λ x. x }, tt) 10 [] (sub-id 𝓤 H A W (G25 .slots)) ((yields W Elem.row refl Elem.copies, refl), tt) (room-gone 𝓤 H A (tyInt w64)) tt refl) (then W (t-op2 𝓤 H A W E 𝓣 G35 (add unsigned) (oAt 3 (tyInt w64) (valS (sInt w64))) (oAt 10 (tyInt w64) (valS (sInt w64))) 3 (sc-here (sInt w64)) (tyInt w64) (valS (sInt w64)) (sInt w64 .of) (reads-sc 𝓤 H A W (sInt w64), refl) (reads-sc 𝓤 H A W (sInt w64), refl) (room-sc 𝓤 H A W (sInt w64)) (holds-sc 𝓤 H A W (sInt w64)) refl (λ u. refl) λ u. tt) (Joins.pre W (g-room 𝓤 H A W E G35 10 (tyInt w64) (room-sc 𝓤 H A W (sInt w64))) (then W (t-call-plain 𝓤 H A W 𝓣 0 ps·0 r·2 (claims· .4) (claims· .5) "table::check::is_sound_slot" (known .2) E (λ pos β. β) G25 (record { pos = 6; st = []; d = 0; at = λ x. x }, tt) 9 [] (sub-id 𝓤 H A W (G25 .slots)) ((yields W Elem.row refl Elem.copies, refl), tt) (room-gone 𝓤 H A tyBool) tt refl) (Joins.pre W (g-room 𝓤 H A W E G38 6 Elem.ty (Local″.room-whole 𝓤 H A W Elem.row Elem.ty refl)) (then W (t-op2 𝓤 H A W E 𝓣 G15 bitAnd (oAt 4 tyBool (valS sBool)) (oAt 9 tyBool (valS sBool)) 4 (sc-here sBool) tyBool (valS sBool) (sBool .of) (reads-sc 𝓤 H A W sBool, refl) (reads-sc 𝓤 H A W sBool, refl) (room-sc 𝓤 H A W sBool) (holds-sc 𝓤 H A W sBool) refl (λ u. refl) λ u. tt) (Joins.pre W (g-room 𝓤 H A W E G15 9 tyBool (room-sc 𝓤 H A W sBool)) (Typed.s-typed 𝓤 H A W 𝓣 E G13 b28 Δ4 (ask s37) tt (t-op2 𝓤 H A W E 𝓣 G13 (add unsigned) (oAt 5 (tyInt w64) (valS (sInt w64))) (oInt w64 1) 5 (sc-here (sInt w64)) (tyInt w64) (valS (sInt w64)) (sInt w64 .of) (reads-sc 𝓤 H A W (sInt w64), refl) tt (room-sc 𝓤 H A W (sInt w64)) (holds-sc 𝓤 H A W (sInt w64)) refl (λ u. refl) λ u. tt)))))))))))
 
           d32 : Does G21 b38 Δ4 (at32 bs)
           d32 = Joins.pre W (g-room 𝓤 H A W E G21 10 (tyInt w64) (room-sc 𝓤 H A W (sInt w64))) (Joins.pre W (g-room 𝓤 H A W E (cx (_++_ t15 t1) ls·2) 11 tyPtr (room-sc 𝓤 H A W sPtr)) (then W (LocalCopy.t-val-copy 𝓤 H A W E 𝓣 (λ ρ. Unit) G23 12 6 Elem.row Elem.ty Elem.ty (whole Elem.row) (whole Elem.row) (λ x. x) (λ x. x) (λ x. x) refl (Own.told-none 𝓤 H A (G23 .slots)) (yields W Elem.row refl Elem.copies) (room-gone 𝓤 H A Elem.ty) (Joins.makes W Elem.row refl) refl refl) (Joins.pre W (g-room 𝓤 H A W E (cx (_++_ t17 t1) ls·2) 12 Elem.ty (Local″.room-whole 𝓤 H A W Elem.row Elem.ty refl)) (then W (t-call-plain 𝓤 H A W 𝓣 0 ps·0 r·0 (claims· .0) (claims· .1) "table::check::call_of" (known .0) E (λ pos β. β) G25 (record { pos = 6; st = []; d = 0; at = λ x. x }, tt) 13 [] (sub-id 𝓤 H A W (G25 .slots)) ((yields W Elem.row refl Elem.copies, refl), tt) (room-gone 𝓤 H A (tyInt w32)) tt refl) (then W (t-op2 𝓤 H A W E 𝓣 (cx (_++_ t19 t1) ls·2) (mul unsigned) (oAt 3 (tyInt w64) (valS (sInt w64))) (oInt w64 4) 10 (sc-here (sInt w64)) (tyInt w64) (valS (sInt w64)) (sInt w64 .of) (reads-sc 𝓤 H A W (sInt w64), refl) tt (room-gone 𝓤 H A (tyInt w64)) (holds-sc 𝓤 H A W (sInt w64)) refl (λ u. refl) λ u. tt) (then W (Init.t-addr 𝓤 H A W E 𝓣 (cx (_++_ t20 t1) ls·2) 14 2 (room-gone 𝓤 H A tyPtr) refl) (then W (t-op2 𝓤 H A W E 𝓣 (cx (_++_ t21 t1) ls·2) offset (oAt 14 tyPtr (valS sPtr)) (oAt 10 (tyInt w64) (valS (sInt w64))) 15 (sc-here sPtr) tyPtr (valS sPtr) (sPtr .of) (reads-sc 𝓤 H A W sPtr, refl) (reads-sc 𝓤 H A W (sInt w64), refl) (room-gone 𝓤 H A tyPtr) (holds-sc 𝓤 H A W sPtr) refl (λ u. refl) λ u. tt) (Joins.pre W (g-room 𝓤 H A W E (cx (_++_ t22 t1) ls·2) 14 tyPtr (room-sc 𝓤 H A W sPtr)) (then W (Borrow.t-arr-write 𝓤 H A W E 𝓣 (fInt w32) (Init.scaled (rtF (fInt w32))) G30 2 15 64 0 (λ x. x) (λ x. x) (oAt 13 (tyInt w32) (valS (sInt w32))) (λ u. u .1 .1 .1 .0) (as-is 𝓤 H A (arrF (rtF (fInt w32)) 64 0)) (as-is 𝓤 H A (sc-here sPtr)) (reads-sc 𝓤 H A W (sInt w32), refl) refl λ u. refl) d22)))))))))
@@ -1006,49 +1006,49 @@ module _ (claims· : Claims) where
         pub before : At-loop
         pub loop-test : After-loop·own before
 
-      abbrev pub Need-mul-e : Type 0
-      Need-mul-e = (c : In-loop) → s14 .asks (m14 (c .before))
+      abbrev pub Need-mul-slot : Type 0
+      Need-mul-slot = (c : In-loop) → s14 .asks (m14 (c .before))
 
       abbrev m17 : (before : At-loop) → Mo T20
       m17 = λ before. s15 .next (s14 .next (m14 before))
 
-      abbrev pub Need-shared-slice-copy-out-e : Type 0
-      Need-shared-slice-copy-out-e = (c : In-loop) → Shared.InSlice T20 1 11 (λ x. x) (λ u. u .1 .1 .1 .1 .1 .0) (m17 (c .before))
+      abbrev pub Need-shared-slice-copy-out-slot : Type 0
+      Need-shared-slice-copy-out-slot = (c : In-loop) → Shared.InSlice T20 1 11 (λ x. x) (λ u. u .1 .1 .1 .1 .1 .0) (m17 (c .before))
 
       abbrev m22 : (before : In-loop) → (given : s16 .gives (m17 (before .before))) → Mo T25
       m22 = λ before given. s20 (s19 (s18 (s17 (s16 .next (m17 (before .before)) given))))
 
       module _ (before· : In-loop) where
-        pub record After-e·own : Type 0 where
+        pub record After-slot·own : Type 0 where
           pub given : s16 .gives (m17 (before· .before))
 
-      pub record After-e : Type 0 where
+      pub record After-slot : Type 0 where
         pub before : In-loop
-        pub e : After-e·own before
+        pub slot : After-slot·own before
 
       abbrev pub Need-call-of-requires : Type 0
-      Need-call-of-requires = (c : After-e) → s21 .asks (m22 (c .before) (c .e .given))
+      Need-call-of-requires = (c : After-slot) → s21 .asks (m22 (c .before) (c .slot .given))
 
-      abbrev m23 : (before : After-e) → (given : s21 .gives (m22 (before .before) (before .e .given))) → Mo T26
-      m23 = λ before given. s21 .next (m22 (before .before) (before .e .given)) given
+      abbrev m23 : (before : After-slot) → (given : s21 .gives (m22 (before .before) (before .slot .given))) → Mo T26
+      m23 = λ before given. s21 .next (m22 (before .before) (before .slot .given)) given
 
       pub record After-call-of : Type 0 where
-        pub before : After-e
-        pub call-of : Called ps·0 r·0 (claims· .1) T25 args·0 (m22 (before .before) (before .e .given))
+        pub before : After-slot
+        pub call-of : Called ps·0 r·0 (claims· .1) T25 args·0 (m22 (before .before) (before .slot .given))
 
-      abbrev After-call-of·gave : (c : After-call-of) → s21 .gives (m22 (c .before .before) (c .before .e .given))
+      abbrev After-call-of·gave : (c : After-call-of) → s21 .gives (m22 (c .before .before) (c .before .slot .given))
       After-call-of·gave = λ c. gave (c .call-of)
 
       abbrev pub Need-mul-calls : Type 0
       Need-mul-calls = (c : After-call-of) → s22 .asks (m23 (c .before) (After-call-of·gave c))
 
-      abbrev m27 : (before : After-e) → (given : s21 .gives (m22 (before .before) (before .e .given))) → Mo T30
+      abbrev m27 : (before : After-slot) → (given : s21 .gives (m22 (before .before) (before .slot .given))) → Mo T30
       m27 = λ before given. s25 (s24 .next (s23 (before .before .before .before .before .blocks) (s22 .next (m23 before given))))
 
       abbrev pub Need-array-write-calls : Type 0
       Need-array-write-calls = (c : After-call-of) → Asked.InArray T30 (λ u. u .1 .1 .1 .0) 64 (m27 (c .before) (After-call-of·gave c))
 
-      abbrev m31 : (before : After-e) → (given : s21 .gives (m22 (before .before) (before .e .given))) → Mo T25
+      abbrev m31 : (before : After-slot) → (given : s21 .gives (m22 (before .before) (before .slot .given))) → Mo T25
       m31 = λ before given. s29 (s28 (s27 (s26 (before .before .before .before .before .blocks) .next (m27 before given))))
 
       abbrev pub Need-count-of-requires : Type 0
@@ -1070,33 +1070,33 @@ module _ (claims· : Claims) where
       abbrev m34 : (before : After-call-of) → (given : s30 .gives (m31 (before .before) (After-call-of·gave before))) → Mo T25
       m34 = λ before given. s32 (s31 .next (m32 before given))
 
-      abbrev pub Need-is-sound-entry-requires : Type 0
-      Need-is-sound-entry-requires = (c : After-count-of) → s33 .asks (m34 (c .before) (After-count-of·gave c))
+      abbrev pub Need-is-sound-slot-requires : Type 0
+      Need-is-sound-slot-requires = (c : After-count-of) → s33 .asks (m34 (c .before) (After-count-of·gave c))
 
       abbrev m35 : (before : After-count-of) → (given : s33 .gives (m34 (before .before) (After-count-of·gave before))) → Mo T38
       m35 = λ before given. s33 .next (m34 (before .before) (After-count-of·gave before)) given
 
-      pub record After-is-sound-entry : Type 0 where
+      pub record After-is-sound-slot : Type 0 where
         pub before : After-count-of
-        pub is-sound-entry : Called ps·0 r·2 (claims· .5) T25 args·0 (m34 (before .before) (After-count-of·gave before))
+        pub is-sound-slot : Called ps·0 r·2 (claims· .5) T25 args·0 (m34 (before .before) (After-count-of·gave before))
 
-      abbrev After-is-sound-entry·gave : (c : After-is-sound-entry) → s33 .gives (m34 (c .before .before) (After-count-of·gave (c .before)))
-      After-is-sound-entry·gave = λ c. gave (c .is-sound-entry)
+      abbrev After-is-sound-slot·gave : (c : After-is-sound-slot) → s33 .gives (m34 (c .before .before) (After-count-of·gave (c .before)))
+      After-is-sound-slot·gave = λ c. gave (c .is-sound-slot)
 
       abbrev m38 : (before : After-count-of) → (given : s33 .gives (m34 (before .before) (After-count-of·gave before))) → Mo T13
       m38 = λ before given. s12 (s35 .next (s34 (m35 before given)))
 
       abbrev pub Need-add-i : Type 0
-      Need-add-i = (c : After-is-sound-entry) → s37 .asks (m38 (c .before) (After-is-sound-entry·gave c))
+      Need-add-i = (c : After-is-sound-slot) → s37 .asks (m38 (c .before) (After-is-sound-slot·gave c))
 
       abbrev m39 : (before : After-count-of) → (given : s33 .gives (m34 (before .before) (After-count-of·gave before))) → Mo T13
       m39 = λ before given. s37 .next (m38 before given)
 
       abbrev pub Need-loop-less : Type 0
-      Need-loop-less = (c : After-is-sound-entry) → _<_ (left·0 (m11 (c .before .before .before .before .before .before .before)) (turn·0 (m39 (c .before) (After-is-sound-entry·gave c)))) (left·0 (m11 (c .before .before .before .before .before .before .before)) ((c .before .before .before .before .before .loop .calls), (c .before .before .before .before .before .loop .n), (c .before .before .before .before .before .loop .ok), (c .before .before .before .before .before .loop .i)))
+      Need-loop-less = (c : After-is-sound-slot) → _<_ (left·0 (m11 (c .before .before .before .before .before .before .before)) (turn·0 (m39 (c .before) (After-is-sound-slot·gave c)))) (left·0 (m11 (c .before .before .before .before .before .before .before)) ((c .before .before .before .before .before .loop .calls), (c .before .before .before .before .before .loop .n), (c .before .before .before .before .before .loop .ok), (c .before .before .before .before .before .loop .i)))
 
       abbrev pub Need-loop-again : Type 0
-      Need-loop-again = (c : After-is-sound-entry) → held·0 (m11 (c .before .before .before .before .before .before .before)) (turn·0 (m39 (c .before) (After-is-sound-entry·gave c)))
+      Need-loop-again = (c : After-is-sound-slot) → held·0 (m11 (c .before .before .before .before .before .before .before)) (turn·0 (m39 (c .before) (After-is-sound-slot·gave c)))
 
       abbrev pub Need-array-share-prefix-calls : Type 0
       Need-array-share-prefix-calls = (c : After-loop) → s39 .asks (m14 (c .before))
@@ -1131,12 +1131,12 @@ module _ (claims· : Claims) where
       abbrev pub Need-returns-2 : Type 0
       Need-returns-2 = (c : After-is-once) → Returns (c .before .before .before .before .before) (s51 (s50 (s49 (s48 (s47 .next (s46 (s44 (s42 (s41 .next (m41 ((c .before) .before) ((c .before) .calls .given)) (After-is-once·gave c))))))))))
 
-      module _ (returns : Need-returns) (loop-holds : Need-loop-holds) (mul-e : Need-mul-e) (shared-slice-copy-out-e : Need-shared-slice-copy-out-e) (call-of-requires : Need-call-of-requires) (mul-calls : Need-mul-calls) (array-write-calls : Need-array-write-calls) (count-of-requires : Need-count-of-requires) (add-n : Need-add-n) (is-sound-entry-requires : Need-is-sound-entry-requires) (add-i : Need-add-i) (loop-less : Need-loop-less) (loop-again : Need-loop-again) (array-share-prefix-calls : Need-array-share-prefix-calls) (slice-aggregate-is-once : Need-slice-aggregate-is-once) (is-once-requires : Need-is-once-requires) (returns-2 : Need-returns-2) where
-        lay9 : (c : After-is-sound-entry) → at15 (W4 (c .before .before .before .before .before .before) (c .before .before .before .before .before .loop .calls) (c .before .before .before .before .before .loop .n) (c .before .before .before .before .before .loop .ok) (c .before .before .before .before .before .loop .i)) (m35 (c .before) (After-is-sound-entry·gave c))
-        lay9 = λ c. (tt, (add-i c, (left·0 (m11 (c .before .before .before .before .before .before .before)) (turn·0 (m39 (c .before) (After-is-sound-entry·gave c))), loop-less c, ((turn·0 (m39 (c .before) (After-is-sound-entry·gave c))), refl {a = m39 (c .before) (After-is-sound-entry·gave c)}, loop-again c, refl {a = left·0 (m11 (c .before .before .before .before .before .before .before)) (turn·0 (m39 (c .before) (After-is-sound-entry·gave c)))}))))
+      module _ (returns : Need-returns) (loop-holds : Need-loop-holds) (mul-slot : Need-mul-slot) (shared-slice-copy-out-slot : Need-shared-slice-copy-out-slot) (call-of-requires : Need-call-of-requires) (mul-calls : Need-mul-calls) (array-write-calls : Need-array-write-calls) (count-of-requires : Need-count-of-requires) (add-n : Need-add-n) (is-sound-slot-requires : Need-is-sound-slot-requires) (add-i : Need-add-i) (loop-less : Need-loop-less) (loop-again : Need-loop-again) (array-share-prefix-calls : Need-array-share-prefix-calls) (slice-aggregate-is-once : Need-slice-aggregate-is-once) (is-once-requires : Need-is-once-requires) (returns-2 : Need-returns-2) where
+        lay9 : (c : After-is-sound-slot) → at15 (W4 (c .before .before .before .before .before .before) (c .before .before .before .before .before .loop .calls) (c .before .before .before .before .before .loop .n) (c .before .before .before .before .before .loop .ok) (c .before .before .before .before .before .loop .i)) (m35 (c .before) (After-is-sound-slot·gave c))
+        lay9 = λ c. (tt, (add-i c, (left·0 (m11 (c .before .before .before .before .before .before .before)) (turn·0 (m39 (c .before) (After-is-sound-slot·gave c))), loop-less c, ((turn·0 (m39 (c .before) (After-is-sound-slot·gave c))), refl {a = m39 (c .before) (After-is-sound-slot·gave c)}, loop-again c, refl {a = left·0 (m11 (c .before .before .before .before .before .before .before)) (turn·0 (m39 (c .before) (After-is-sound-slot·gave c)))}))))
 
         lay8 : (c : After-count-of) → at18 (W4 (c .before .before .before .before .before) (c .before .before .before .before .loop .calls) (c .before .before .before .before .loop .n) (c .before .before .before .before .loop .ok) (c .before .before .before .before .loop .i)) (m32 (c .before) (After-count-of·gave c))
-        lay8 = λ c. (add-n c, (is-sound-entry-requires c, λ g. lay9 record { before = c; is-sound-entry = called g }))
+        lay8 = λ c. (add-n c, (is-sound-slot-requires c, λ g. lay9 record { before = c; is-sound-slot = called g }))
 
         lay7 : (c : After-call-of) → at27 (c .before .before .before .before .before .blocks) (W4 (c .before .before .before .before) (c .before .before .before .loop .calls) (c .before .before .before .loop .n) (c .before .before .before .loop .ok) (c .before .before .before .loop .i)) (m23 (c .before) (After-call-of·gave c))
         lay7 = λ c. (mul-calls c, (tt, (((refl, refl), array-write-calls c), (count-of-requires c, λ g. lay8 record { before = c; count-of = called g }))))
@@ -1145,7 +1145,7 @@ module _ (claims· : Claims) where
         lay5 = λ c. (array-share-prefix-calls c, λ g. (count-is T44 16 17 (λ x. x) (λ u. u .1 .1 .1 .0) (m40 record { before = c .before; loop-test = c .loop-test } g) (slice-aggregate-is-once record { before = c; calls = record { given = g } }), (is-once-requires record { before = c; calls = record { given = g } }, λ g'. (tt, ((refl, tt), returns-2 record { before = record { before = c; calls = record { given = g } }; is-once = called g' })))))
 
         lay4 : (c : In-loop) → at8 (W5 (c .before .before) (c .before .loop .calls) (c .before .loop .n) (c .before .loop .ok) (c .before .loop .i)) (m13 (c .before .before) (c .before .loop .calls) (c .before .loop .n) (c .before .loop .ok) (c .before .loop .i))
-        lay4 = λ c. (mul-e c, (tt, ((refl, refl, shared-slice-copy-out-e c), λ g. (call-of-requires record { before = c; e = record { given = g } }, λ g'. lay7 record { before = record { before = c; e = record { given = g } }; call-of = called g' }))))
+        lay4 = λ c. (mul-slot c, (tt, ((refl, refl, shared-slice-copy-out-slot c), λ g. (call-of-requires record { before = c; slot = record { given = g } }, λ g'. lay7 record { before = record { before = c; slot = record { given = g } }; call-of = called g' }))))
 
         lay2 : (c : Else1) → at4 (wantNext T0 O0 (at60 (c .before .blocks) (W0 (c .before .κs) (c .before .args))) (W0 (c .before .κs) (c .before .args))) (m3 (c .before))
         lay2 = λ c. (((turn·0 (m11 (c .before))), refl {a = m11 (c .before)}, loop-holds c), λ vs inv. (tt, (λ taken. lay4 record { before = record { before = c; loop = record { calls = vs .0; n = vs .1; ok = vs .2; i = vs .3; inv = inv } }; loop-test = record { taken = Tests.ltb-true (get 5 (T13 .locals) (m12 record { before = c .before; if1 = c .if1 } (vs .0) (vs .1) (vs .2) (vs .3))) 64 taken } }, λ left. lay5 record { before = record { before = c; loop = record { calls = vs .0; n = vs .1; ok = vs .2; i = vs .3; inv = inv } }; loop-test = record { left = Tests.ltb-false (get 5 (T13 .locals) (m12 record { before = c .before; if1 = c .if1 } (vs .0) (vs .1) (vs .2) (vs .3))) 64 left } })))
@@ -1157,6 +1157,6 @@ module _ (claims· : Claims) where
           pub asked : (a : Dens κs ps) → (good : Kinds.GoodsP κs ps a) → (pre : Pre· κs a) → (bs : List ℕ) → Φ bs (Any.wantQ 1 ps r xs m κs qs a (Post· κs a)) (init 1 ps r xs m κs qs a)
           asked = λ a good pre bs. laid record { κs = κs; args = record { table = a .0 }; blocks = bs; good = good; pre = pre }
 
-        module _ {M : Type 1} (𝓤 : URA M) (H : Wp.Heap 𝓤) (A : Atoms 𝓤) (W : Given 𝓤 H A) (𝓣 : Wp.Tables 𝓤 H) (known0 : Known 𝓤 H A W 𝓣 0 ps·0 r·0 (claims· .0) (claims· .1) "table::check::call_of") (known1 : Known 𝓤 H A W 𝓣 0 ps·0 r·1 (claims· .2) (claims· .3) "table::check::count_of") (known2 : Known 𝓤 H A W 𝓣 0 ps·0 r·2 (claims· .4) (claims· .5) "table::check::is_sound_entry") (known3 : Known 𝓤 H A W 𝓣 1 ps·3 r (claims· .6) (claims· .7) "table::check::is_once") where
+        module _ {M : Type 1} (𝓤 : URA M) (H : Wp.Heap 𝓤) (A : Atoms 𝓤) (W : Given 𝓤 H A) (𝓣 : Wp.Tables 𝓤 H) (known0 : Known 𝓤 H A W 𝓣 0 ps·0 r·0 (claims· .0) (claims· .1) "table::check::call_of") (known1 : Known 𝓤 H A W 𝓣 0 ps·0 r·1 (claims· .2) (claims· .3) "table::check::count_of") (known2 : Known 𝓤 H A W 𝓣 0 ps·0 r·2 (claims· .4) (claims· .5) "table::check::is_sound_slot") (known3 : Known 𝓤 H A W 𝓣 1 ps·3 r (claims· .6) (claims· .7) "table::check::is_once") where
           pub spec : Triple 𝓤 (Wp.WpFn 𝓤 H (𝓣 .C) (𝓣 .Λ) (fnOf 1 ps r xs m hs body)) (plainOf 𝓤 H A 1 ps r Pre· Post·)
           spec = t-fn-plain 𝓤 H A W 𝓣 1 ps r xs m hs body (λ κs qs bs. Φ bs) (λ κs qs bs bd. typed κs qs 𝓤 H A W 𝓣 (known0, known1, known2, known3) bs bd) Pre· Post· asked

@@ -246,10 +246,10 @@ abbrev b19 : Body
 b19 = seq b5 (seq (assign (place 14 []) (op2 offset (copy (place 1 ((field 0) ∷ []))) (copy (place 11 [])))) (seq (assign (place 14 ((deref Elem.ty) ∷ [])) (rvOpd (copy (place 13 [])))) (seq (call "table::serve::answer_of" ((copy (place 8 [])) ∷ []) (place 0 [])) return)))
 
 abbrev b22 : Body
-b22 = seq (assign (place 7 []) (rvOpd (copy (place 13 [])))) (seq (call "table::serve::act" ((copy (place 7 [])) ∷ (copy (place 5 [])) ∷ (copy (place 2 [])) ∷ (copy (place 3 [])) ∷ []) (place 8 [])) (seq (call "table::serve::entry_after" ((copy (place 7 [])) ∷ (copy (place 4 [])) ∷ (copy (place 8 [])) ∷ []) (place 13 [])) b19))
+b22 = seq (assign (place 7 []) (rvOpd (copy (place 13 [])))) (seq (call "table::serve::act" ((copy (place 7 [])) ∷ (copy (place 5 [])) ∷ (copy (place 2 [])) ∷ (copy (place 3 [])) ∷ []) (place 8 [])) (seq (call "table::serve::slot_after" ((copy (place 7 [])) ∷ (copy (place 4 [])) ∷ (copy (place 8 [])) ∷ []) (place 13 [])) b19))
 
 abbrev b27 : Body
-b27 = seq (call "table::lookup::locate" ((copy (place 10 [])) ∷ (copy (place 4 [])) ∷ []) (place 5 [])) (seq (call "table::lookup::place_of" ((copy (place 5 [])) ∷ []) (place 6 [])) (seq b5 (seq (assign (place 12 []) (op2 offset (copy (place 1 ((field 0) ∷ []))) (copy (place 11 [])))) (seq (assign (place 13 []) (rvOpd (copy (place 12 ((deref Elem.ty) ∷ []))))) b22))))
+b27 = seq (call "table::lookup::locate" ((copy (place 10 [])) ∷ (copy (place 4 [])) ∷ []) (place 5 [])) (seq (call "table::lookup::slot_of" ((copy (place 5 [])) ∷ []) (place 6 [])) (seq b5 (seq (assign (place 12 []) (op2 offset (copy (place 1 ((field 0) ∷ []))) (copy (place 11 [])))) (seq (assign (place 13 []) (rvOpd (copy (place 12 ((deref Elem.ty) ∷ []))))) b22))))
 
 abbrev b30 : Body
 b30 = seq (call "forms::item::call_in" ((copy (place 2 [])) ∷ []) (place 4 [])) (seq (assign (place 9 []) (addrOf (place 1 ((field 0) ∷ (deref Elem.ty) ∷ [])))) (seq (assign (place 10 []) (aggregate ((copy (place 9 [])) ∷ (copy (place 1 ((field 1) ∷ []))) ∷ []))) b27))
@@ -531,7 +531,7 @@ module _ (claims· : Claims) where
   module _ (Pre· : (κs : Lfts 3) → Dens κs ps → Type 0) (Post· : (κs : Lfts 3) → (a : Dens κs ps) → Kinds.Plain 3 ps r κs) where
     module _ (M : Type 1) where
       abbrev pub Closed : Type 2
-      Closed = (𝓤 : URA M) (H : Wp.Heap 𝓤) (A : Atoms 𝓤) (W : Given 𝓤 H A) (𝓣 : Wp.Tables 𝓤 H) (known0 : Known 𝓤 H A W 𝓣 1 ps·0 r·0 (claims· .0) (claims· .1) "forms::item::call_in") (known1 : Known 𝓤 H A W 𝓣 1 ps·1 r·1 (claims· .2) (claims· .3) "table::lookup::locate") (known2 : Known 𝓤 H A W 𝓣 0 ps·2 r·2 (claims· .4) (claims· .5) "table::lookup::place_of") (known3 : Known 𝓤 H A W 𝓣 2 ps·3 r·3 (claims· .6) (claims· .7) "table::serve::act") (known4 : Known 𝓤 H A W 𝓣 0 ps·4 r·4 (claims· .8) (claims· .9) "table::serve::entry_after") (known5 : Known 𝓤 H A W 𝓣 0 ps·5 r·5 (claims· .10) (claims· .11) "table::serve::answer_of") → Triple 𝓤 (Wp.WpFn 𝓤 H (𝓣 .C) (𝓣 .Λ) (fnOf 3 ps r xs m hs body)) (plainOf 𝓤 H A 3 ps r Pre· Post·)
+      Closed = (𝓤 : URA M) (H : Wp.Heap 𝓤) (A : Atoms 𝓤) (W : Given 𝓤 H A) (𝓣 : Wp.Tables 𝓤 H) (known0 : Known 𝓤 H A W 𝓣 1 ps·0 r·0 (claims· .0) (claims· .1) "forms::item::call_in") (known1 : Known 𝓤 H A W 𝓣 1 ps·1 r·1 (claims· .2) (claims· .3) "table::lookup::locate") (known2 : Known 𝓤 H A W 𝓣 0 ps·2 r·2 (claims· .4) (claims· .5) "table::lookup::slot_of") (known3 : Known 𝓤 H A W 𝓣 2 ps·3 r·3 (claims· .6) (claims· .7) "table::serve::act") (known4 : Known 𝓤 H A W 𝓣 0 ps·4 r·4 (claims· .8) (claims· .9) "table::serve::slot_after") (known5 : Known 𝓤 H A W 𝓣 0 ps·5 r·5 (claims· .10) (claims· .11) "table::serve::answer_of") → Triple 𝓤 (Wp.WpFn 𝓤 H (𝓣 .C) (𝓣 .Λ) (fnOf 3 ps r xs m hs body)) (plainOf 𝓤 H A 3 ps r Pre· Post·)
 
     module _ where
       abbrev at3 : TF T31 O0
@@ -566,7 +566,7 @@ module _ (claims· : Claims) where
 
       module _ {M : Type 1} (𝓤 : URA M) (H : Wp.Heap 𝓤) (A : Atoms 𝓤) (W : Given 𝓤 H A) (𝓣 : Wp.Tables 𝓤 H) where
         abbrev Knowns : Type 1
-        Knowns = Known 𝓤 H A W 𝓣 1 ps·0 r·0 (claims· .0) (claims· .1) "forms::item::call_in" × Known 𝓤 H A W 𝓣 1 ps·1 r·1 (claims· .2) (claims· .3) "table::lookup::locate" × Known 𝓤 H A W 𝓣 0 ps·2 r·2 (claims· .4) (claims· .5) "table::lookup::place_of" × Known 𝓤 H A W 𝓣 2 ps·3 r·3 (claims· .6) (claims· .7) "table::serve::act" × Known 𝓤 H A W 𝓣 0 ps·4 r·4 (claims· .8) (claims· .9) "table::serve::entry_after" × Known 𝓤 H A W 𝓣 0 ps·5 r·5 (claims· .10) (claims· .11) "table::serve::answer_of"
+        Knowns = Known 𝓤 H A W 𝓣 1 ps·0 r·0 (claims· .0) (claims· .1) "forms::item::call_in" × Known 𝓤 H A W 𝓣 1 ps·1 r·1 (claims· .2) (claims· .3) "table::lookup::locate" × Known 𝓤 H A W 𝓣 0 ps·2 r·2 (claims· .4) (claims· .5) "table::lookup::slot_of" × Known 𝓤 H A W 𝓣 2 ps·3 r·3 (claims· .6) (claims· .7) "table::serve::act" × Known 𝓤 H A W 𝓣 0 ps·4 r·4 (claims· .8) (claims· .9) "table::serve::slot_after" × Known 𝓤 H A W 𝓣 0 ps·5 r·5 (claims· .10) (claims· .11) "table::serve::answer_of"
 
       module _ (κs : Lfts 3) (qs : Shares 3) where
         abbrev ℓ·0 : Life
@@ -595,9 +595,6 @@ module _ (claims· : Claims) where
 
         abbrev G8 : Cx
         G8 = cx (en·6 ∷ (1, mslice-owedS Elem.row ty·1 0 3 ℓ·0) ∷ en·3 ∷ en·2 ∷ en·1 ∷ en·16 ∷ es·1) ls·0
-
-        abbrev G9 : Cx
-        G9 = cx g6 ls·0
 
         abbrev G10 : Cx
         G10 = cx g6 (off ∷ ℓ·1 ∷ ℓ·2 ∷ dead ∷ [])
@@ -652,10 +649,10 @@ module _ (claims· : Claims) where
           d11 = Joins.pre W (g-room 𝓤 H A W E G23 7 Elem.ty (room-whole 𝓤 H A W Elem.row Elem.ty refl)) (then W (t-op2 𝓤 H A W E 𝓣 (cx t19 ls·1) (mul unsigned) (oAt 6 (tyInt w64) (valS (sInt w64))) (oInt w64 136) 11 (sc-here (sInt w64)) (tyInt w64) (valS (sInt w64)) (sInt w64 .of) (reads-sc 𝓤 H A W (sInt w64), refl) tt (room-gone 𝓤 H A (tyInt w64)) (holds-sc 𝓤 H A W (sInt w64)) refl (λ u. refl) λ u. tt) (then W (t-op2 𝓤 H A W E 𝓣 (cx t20 ls·1) offset (oFld 1 ((field 0) ∷ []) ty·1 0 ptrVal) (oAt 11 (tyInt w64) (valS (sInt w64))) 14 (sc-here sPtr) tyPtr (valS sPtr) (sPtr .of) (reads-mslice-ptr 𝓤 H A W Elem.row ty·1 0 0 refl, refl) (reads-sc 𝓤 H A W (sInt w64), refl) (room-gone 𝓤 H A tyPtr) (holds-sc 𝓤 H A W sPtr) refl (λ u. refl) λ u. tt) (then W (Move.t-sl-set-from 𝓤 H A W E Elem.row 𝓣 refl (λ ρ. Unit) G26 1 14 13 0 ty·1 ℓ·0 Elem.ty Elem.ty (whole Elem.row) (bySize 136) (λ u. u .1 .1 .1 .1 .1 .1 .0) (λ x. x) (λ x. x) (λ x. x) (λ x. x) (λ i o. at-mul o 136 i) refl refl (Own.told-none 𝓤 H A (G26 .slots)) (as-is 𝓤 H A (mslice Elem.row ty·1 0)) (as-is 𝓤 H A (sc-here sPtr)) (yields W Elem.row refl Elem.copies) refl tt refl refl) (Joins.pre W (g-room 𝓤 H A W E G26 11 (tyInt w64) (room-sc 𝓤 H A W (sInt w64))) (Joins.pre W (g-room 𝓤 H A W E (cx t22 ls·1) 13 Elem.ty (room-whole 𝓤 H A W Elem.row Elem.ty refl)) (Joins.pre W (g-room 𝓤 H A W E (cx t23 ls·1) 14 tyPtr (room-sc 𝓤 H A W sPtr)) (then W (t-call-plain 𝓤 H A W 𝓣 0 ps·5 r·5 (claims· .10) (claims· .11) "table::serve::answer_of" (known .5) E (λ pos β. β) G30 (record { pos = 8; st = []; d = 0; at = λ x. x }, tt) 0 [] (sub-id 𝓤 H A W (G30 .slots)) ((yields W Stepped·row refl (cStruct Stepped.the-type Laws'.the-laws Laws'.the-copy), refl), tt) (room-gone 𝓤 H A Laws.mir) tt refl) (Joins.pre W (g-room 𝓤 H A W E (cx t25 ls·1) 4 (tyInt w32) (room-sc 𝓤 H A W (sInt w32))) (Joins.pre W (g-room 𝓤 H A W E (cx t26 ls·1) 6 (tyInt w64) (room-sc 𝓤 H A W (sInt w64))) (Joins.pre W (g-room 𝓤 H A W E (cx t27 ls·1) 8 Laws'.mir (room-whole 𝓤 H A W Stepped·row Laws'.mir refl)) (t-return 𝓤 H A W 𝓣 E Δ0 tt)))))))))))
 
           d18 : Does G16 b22 Δ0 at18
-          d18 = Joins.pre W (g-room 𝓤 H A W E G16 11 (tyInt w64) (room-sc 𝓤 H A W (sInt w64))) (Joins.pre W (g-room 𝓤 H A W E (cx t12 ls·1) 12 tyPtr (room-sc 𝓤 H A W sPtr)) (then W (LocalCopy.t-val-copy 𝓤 H A W E 𝓣 (λ ρ. Unit) G18 13 7 Elem.row Elem.ty Elem.ty (whole Elem.row) (whole Elem.row) (λ x. x) (λ x. x) (λ x. x) refl (Own.told-none 𝓤 H A (G18 .slots)) (yields W Elem.row refl Elem.copies) (room-gone 𝓤 H A Elem.ty) (Joins.makes W Elem.row refl) refl refl) (Joins.pre W (g-room 𝓤 H A W E (cx t14 ls·1) 13 Elem.ty (room-whole 𝓤 H A W Elem.row Elem.ty refl)) (then W (t-call-plain 𝓤 H A W 𝓣 2 ps·3 r·3 (claims· .6) (claims· .7) "table::serve::act" (known .3) E (λ pos β. β) G20 (record { pos = 7; st = []; d = 0; at = λ x. x }, (record { pos = 5; st = []; d = 0; at = λ x. x }, (record { pos = 2; ty = tyRef (named 1) imm (tyInt w8); ref = λ x. x }, (record { pos = 3; ty = tyRef (named 2) imm (tyInt w8); ref = λ x. x }, tt)))) 8 (1 ∷ 2 ∷ []) (sub-id 𝓤 H A W (G20 .slots)) ((yields W Elem.row refl Elem.copies, refl), ((yields W Spot·row refl (cEnum Spot.the-type Laws''.the-laws Laws''.the-copy), refl), (spares-sslice 𝓤 H A W u8 ty·2 1, reads-sslice 𝓤 H A W u8 ty·2 1, refl, (spares-sslice 𝓤 H A W u8 ty·4 2, reads-sslice 𝓤 H A W u8 ty·4 2, refl, tt)))) (room-gone 𝓤 H A Laws'.mir) (tt, (tt, tt)) refl) (Joins.pre W (g-room 𝓤 H A W E (cx t16 ls·1) 5 Laws''.mir (room-whole 𝓤 H A W Spot·row Laws''.mir refl)) (then W (t-call-plain 𝓤 H A W 𝓣 0 ps·4 r·4 (claims· .8) (claims· .9) "table::serve::entry_after" (known .4) E (λ pos β. β) G22 (record { pos = 7; st = []; d = 0; at = λ x. x }, (vAt 4 λ x. x, (record { pos = 8; st = []; d = 0; at = λ x. x }, tt))) 13 [] (sub-id 𝓤 H A W (G22 .slots)) ((yields W Elem.row refl Elem.copies, refl), ((reads-sc 𝓤 H A W (sInt w32), refl), ((yields W Stepped·row refl (cStruct Stepped.the-type Laws'.the-laws Laws'.the-copy), refl), tt))) (room-gone 𝓤 H A Elem.ty) tt refl) d11))))))
+          d18 = Joins.pre W (g-room 𝓤 H A W E G16 11 (tyInt w64) (room-sc 𝓤 H A W (sInt w64))) (Joins.pre W (g-room 𝓤 H A W E (cx t12 ls·1) 12 tyPtr (room-sc 𝓤 H A W sPtr)) (then W (LocalCopy.t-val-copy 𝓤 H A W E 𝓣 (λ ρ. Unit) G18 13 7 Elem.row Elem.ty Elem.ty (whole Elem.row) (whole Elem.row) (λ x. x) (λ x. x) (λ x. x) refl (Own.told-none 𝓤 H A (G18 .slots)) (yields W Elem.row refl Elem.copies) (room-gone 𝓤 H A Elem.ty) (Joins.makes W Elem.row refl) refl refl) (Joins.pre W (g-room 𝓤 H A W E (cx t14 ls·1) 13 Elem.ty (room-whole 𝓤 H A W Elem.row Elem.ty refl)) (then W (t-call-plain 𝓤 H A W 𝓣 2 ps·3 r·3 (claims· .6) (claims· .7) "table::serve::act" (known .3) E (λ pos β. β) G20 (record { pos = 7; st = []; d = 0; at = λ x. x }, (record { pos = 5; st = []; d = 0; at = λ x. x }, (record { pos = 2; ty = tyRef (named 1) imm (tyInt w8); ref = λ x. x }, (record { pos = 3; ty = tyRef (named 2) imm (tyInt w8); ref = λ x. x }, tt)))) 8 (1 ∷ 2 ∷ []) (sub-id 𝓤 H A W (G20 .slots)) ((yields W Elem.row refl Elem.copies, refl), ((yields W Spot·row refl (cEnum Spot.the-type Laws''.the-laws Laws''.the-copy), refl), (spares-sslice 𝓤 H A W u8 ty·2 1, reads-sslice 𝓤 H A W u8 ty·2 1, refl, (spares-sslice 𝓤 H A W u8 ty·4 2, reads-sslice 𝓤 H A W u8 ty·4 2, refl, tt)))) (room-gone 𝓤 H A Laws'.mir) (tt, (tt, tt)) refl) (Joins.pre W (g-room 𝓤 H A W E (cx t16 ls·1) 5 Laws''.mir (room-whole 𝓤 H A W Spot·row Laws''.mir refl)) (then W (t-call-plain 𝓤 H A W 𝓣 0 ps·4 r·4 (claims· .8) (claims· .9) "table::serve::slot_after" (known .4) E (λ pos β. β) G22 (record { pos = 7; st = []; d = 0; at = λ x. x }, (vAt 4 λ x. x, (record { pos = 8; st = []; d = 0; at = λ x. x }, tt))) 13 [] (sub-id 𝓤 H A W (G22 .slots)) ((yields W Elem.row refl Elem.copies, refl), ((reads-sc 𝓤 H A W (sInt w32), refl), ((yields W Stepped·row refl (cStruct Stepped.the-type Laws'.the-laws Laws'.the-copy), refl), tt))) (room-gone 𝓤 H A Elem.ty) tt refl) d11))))))
 
           d27 : Does G7 b27 Δ0 at27
-          d27 = then W (t-call-plain 𝓤 H A W 𝓣 1 ps·1 r·1 (claims· .2) (claims· .3) "table::lookup::locate" (known .1) E (λ pos β. β) G7 (record { pos = 10; ty = tyRef erased imm Elem.pointed; ref = λ x. x }, (vAt 4 λ x. x, tt)) 5 (3 ∷ []) (sub-id 𝓤 H A W (G7 .slots)) (spares-sslice 𝓤 H A W Elem.row ty·3 3, reads-sslice 𝓤 H A W Elem.row ty·3 3, refl, ((reads-sc 𝓤 H A W (sInt w32), refl), tt)) (room-gone 𝓤 H A Laws''.mir) (tt, tt) refl) (Joins.pre W (g-room 𝓤 H A W E G8 10 ty·0 (room-sslice 𝓤 H A W Elem.row ty·3 3)) (Joins.pre W (Lifetime.g-end 𝓤 H A W E G9 3 refl) (Joins.pre W (Reshare.g-back-sl-shr 𝓤 H A W E Elem.row G10 1 0 3 ty·1 ℓ·0 (λ x. x) (as-is 𝓤 H A (mslice-owedS Elem.row ty·1 0 3 ℓ·0)) refl refl) (Joins.pre W (Lifetime.g-forget 𝓤 H A W E G11 3 dead refl) (then W (t-call-plain 𝓤 H A W 𝓣 0 ps·2 r·2 (claims· .4) (claims· .5) "table::lookup::place_of" (known .2) E (λ pos β. β) G12 (record { pos = 5; st = []; d = 0; at = λ x. x }, tt) 6 [] (sub-id 𝓤 H A W (G12 .slots)) ((yields W Spot·row refl (cEnum Spot.the-type Laws''.the-laws Laws''.the-copy), refl), tt) (room-gone 𝓤 H A (tyInt w64)) tt refl) (then W (t-op2 𝓤 H A W E 𝓣 G13 (mul unsigned) (oAt 6 (tyInt w64) (valS (sInt w64))) (oInt w64 136) 11 (sc-here (sInt w64)) (tyInt w64) (valS (sInt w64)) (sInt w64 .of) (reads-sc 𝓤 H A W (sInt w64), refl) tt (room-gone 𝓤 H A (tyInt w64)) (holds-sc 𝓤 H A W (sInt w64)) refl (λ u. refl) λ u. tt) (then W (t-op2 𝓤 H A W E 𝓣 G14 offset (oFld 1 ((field 0) ∷ []) ty·1 0 ptrVal) (oAt 11 (tyInt w64) (valS (sInt w64))) 12 (sc-here sPtr) tyPtr (valS sPtr) (sPtr .of) (reads-mslice-ptr 𝓤 H A W Elem.row ty·1 0 0 refl, refl) (reads-sc 𝓤 H A W (sInt w64), refl) (room-gone 𝓤 H A tyPtr) (holds-sc 𝓤 H A W sPtr) refl (λ u. refl) λ u. tt) (then W (Move.t-sl-copy-out 𝓤 H A W E Elem.row 𝓣 refl (Elem.copies .copy 𝓤 H A W) (λ ρ. Unit) G15 1 12 13 0 ty·1 ℓ·0 Elem.ty Elem.ty (whole Elem.row) (bySize 136) (λ u. u .1 .1 .1 .1 .1 .1 .0) (λ x. x) Elem.past (λ x. Unit) (λ x. x) (λ x. x) (λ i o. at-mul o 136 i) refl refl (Own.told-none 𝓤 H A (G15 .slots)) (DerefMove.learns-nothing 𝓤 H A Elem.row) (as-is 𝓤 H A (mslice Elem.row ty·1 0)) (as-is 𝓤 H A (sc-here sPtr)) (room-gone 𝓤 H A Elem.ty) (Joins.makes W Elem.row refl) refl tt refl refl) d18))))))))
+          d27 = then W (t-call-plain 𝓤 H A W 𝓣 1 ps·1 r·1 (claims· .2) (claims· .3) "table::lookup::locate" (known .1) E (λ pos β. β) G7 (record { pos = 10; ty = tyRef erased imm Elem.pointed; ref = λ x. x }, (vAt 4 λ x. x, tt)) 5 (3 ∷ []) (sub-id 𝓤 H A W (G7 .slots)) (spares-sslice 𝓤 H A W Elem.row ty·3 3, reads-sslice 𝓤 H A W Elem.row ty·3 3, refl, ((reads-sc 𝓤 H A W (sInt w32), refl), tt)) (room-gone 𝓤 H A Laws''.mir) (tt, tt) refl) (Joins.pre W (g-room 𝓤 H A W E G8 10 ty·0 (room-sslice 𝓤 H A W Elem.row ty·3 3)) (Joins.pre W (Lifetime.g-end 𝓤 H A W E (cx g6 ls·0) 3 refl) (Joins.pre W (Reshare.g-back-sl-shr 𝓤 H A W E Elem.row G10 1 0 3 ty·1 ℓ·0 (λ x. x) (as-is 𝓤 H A (mslice-owedS Elem.row ty·1 0 3 ℓ·0)) refl refl) (Joins.pre W (Lifetime.g-forget 𝓤 H A W E G11 3 dead refl) (then W (t-call-plain 𝓤 H A W 𝓣 0 ps·2 r·2 (claims· .4) (claims· .5) "table::lookup::slot_of" (known .2) E (λ pos β. β) G12 (record { pos = 5; st = []; d = 0; at = λ x. x }, tt) 6 [] (sub-id 𝓤 H A W (G12 .slots)) ((yields W Spot·row refl (cEnum Spot.the-type Laws''.the-laws Laws''.the-copy), refl), tt) (room-gone 𝓤 H A (tyInt w64)) tt refl) (then W (t-op2 𝓤 H A W E 𝓣 G13 (mul unsigned) (oAt 6 (tyInt w64) (valS (sInt w64))) (oInt w64 136) 11 (sc-here (sInt w64)) (tyInt w64) (valS (sInt w64)) (sInt w64 .of) (reads-sc 𝓤 H A W (sInt w64), refl) tt (room-gone 𝓤 H A (tyInt w64)) (holds-sc 𝓤 H A W (sInt w64)) refl (λ u. refl) λ u. tt) (then W (t-op2 𝓤 H A W E 𝓣 G14 offset (oFld 1 ((field 0) ∷ []) ty·1 0 ptrVal) (oAt 11 (tyInt w64) (valS (sInt w64))) 12 (sc-here sPtr) tyPtr (valS sPtr) (sPtr .of) (reads-mslice-ptr 𝓤 H A W Elem.row ty·1 0 0 refl, refl) (reads-sc 𝓤 H A W (sInt w64), refl) (room-gone 𝓤 H A tyPtr) (holds-sc 𝓤 H A W sPtr) refl (λ u. refl) λ u. tt) (then W (Move.t-sl-copy-out 𝓤 H A W E Elem.row 𝓣 refl (Elem.copies .copy 𝓤 H A W) (λ ρ. Unit) G15 1 12 13 0 ty·1 ℓ·0 Elem.ty Elem.ty (whole Elem.row) (bySize 136) (λ u. u .1 .1 .1 .1 .1 .1 .0) (λ x. x) Elem.past (λ x. Unit) (λ x. x) (λ x. x) (λ i o. at-mul o 136 i) refl refl (Own.told-none 𝓤 H A (G15 .slots)) (DerefMove.learns-nothing 𝓤 H A Elem.row) (as-is 𝓤 H A (mslice Elem.row ty·1 0)) (as-is 𝓤 H A (sc-here sPtr)) (room-gone 𝓤 H A Elem.ty) (Joins.makes W Elem.row refl) refl tt refl refl) d18))))))))
 
           pub typed : Typed 𝓤 H A 𝓣 E (Γin 3 ps r xs m κs qs) b30 (Δret 3 ps r xs m κs qs) Φ
           typed = Joins.pre W (Know.g-shs-known 𝓤 H A W (fInt w8) E G0 2 1 ty·2 ℓ·1 0 (λ x. x) record { fits = Dec'.lit< tt } (as-is 𝓤 H A (sslice u8 ty·2 1)) refl tt) (Joins.pre W (Know.g-shs-known 𝓤 H A W (fInt w8) E G0 3 2 ty·4 ℓ·2 0 (λ x. x) record { fits = Dec'.lit< tt } (as-is 𝓤 H A (sslice u8 ty·4 2)) refl tt) (then W (t-call-plain 𝓤 H A W 𝓣 1 ps·0 r·0 (claims· .0) (claims· .1) "forms::item::call_in" (known .0) E (λ pos β. β) G0 (record { pos = 2; ty = tyRef (named 1) imm (tyInt w8); ref = λ x. x }, tt) 4 (1 ∷ []) (sub-id 𝓤 H A W (G0 .slots)) (spares-sslice 𝓤 H A W u8 ty·2 1, reads-sslice 𝓤 H A W u8 ty·2 1, refl, tt) (room-gone 𝓤 H A (tyInt w32)) (tt, tt) refl) (Joins.pre W (Lifetime.g-begin 𝓤 H A W E (cx t2 ls·1) 3 (tt, (tt, (tt, (tt, (tt, (tt, (tt, (tt, (tt, (tt, (tt, (tt, (tt, (tt, (tt, tt)))))))))))))))) (then W (Reshare.t-sl-reshare 𝓤 H A W E Elem.row 𝓣 (cx t2 (ℓ·0 ∷ ℓ·1 ∷ ℓ·2 ∷ alive ∷ [])) 1 9 0 3 ty·1 ty·3 ℓ·0 0 (λ x. x) (as-is 𝓤 H A (mslice Elem.row ty·1 0)) (room-gone 𝓤 H A ty·3) refl tt refl refl refl λ b o. tt) (then W (t-sl-aggregate 𝓤 H A W E Elem.row 𝓣 (asShr Elem.row) (cx (en·6 ∷ (1, mslice-owedS Elem.row ty·1 0 3 ℓ·0) ∷ en·3 ∷ en·2 ∷ en·1 ∷ en·15 ∷ en·13 ∷ en·9 ∷ en·14 ∷ (9, ssptr Elem.row ty·3 3) ∷ en·11 ∷ en·0 ∷ es·6) ls·0) 9 10 3 ty·3 ty·3 (λ x. x) (oFld 1 ((field 1) ∷ []) (tyInt w64) 8 λ v. lenV (v .0)) (as-is 𝓤 H A (ssptr Elem.row ty·3 3)) (room-gone 𝓤 H A ty·0) (Reshare.reads-owedS-len 𝓤 H A W Elem.row ty·1 0 3 ℓ·0 8 refl, refl) refl refl λ b o k. tt) d27)))))
@@ -749,97 +746,97 @@ module _ (claims· : Claims) where
       abbrev m8 : (before : After-locate-arg) → (given : s6 .gives (m5 (before .before) (before .locate-arg .given))) → Mo T11
       m8 = λ before given. s9 (s7 (m6 before given))
 
-      abbrev pub Need-place-of-requires : Type 0
-      Need-place-of-requires = (c : After-locate) → s11 .asks (m8 (c .before) (After-locate·gave c))
+      abbrev pub Need-slot-of-requires : Type 0
+      Need-slot-of-requires = (c : After-locate) → s11 .asks (m8 (c .before) (After-locate·gave c))
 
       abbrev m9 : (before : After-locate) → (given : s11 .gives (m8 (before .before) (After-locate·gave before))) → Mo T13
       m9 = λ before given. s11 .next (m8 (before .before) (After-locate·gave before)) given
 
-      pub record After-place-of : Type 0 where
+      pub record After-slot-of : Type 0 where
         pub before : After-locate
-        pub place-of : Called ps·2 r·2 (claims· .5) T11 args·2 (m8 (before .before) (After-locate·gave before))
+        pub slot-of : Called ps·2 r·2 (claims· .5) T11 args·2 (m8 (before .before) (After-locate·gave before))
 
-      abbrev After-place-of·gave : (c : After-place-of) → s11 .gives (m8 (c .before .before) (After-locate·gave (c .before)))
-      After-place-of·gave = λ c. gave (c .place-of)
+      abbrev After-slot-of·gave : (c : After-slot-of) → s11 .gives (m8 (c .before .before) (After-locate·gave (c .before)))
+      After-slot-of·gave = λ c. gave (c .slot-of)
 
-      abbrev pub Need-mul-e : Type 0
-      Need-mul-e = (c : After-place-of) → s12 .asks (m9 (c .before) (After-place-of·gave c))
+      abbrev pub Need-mul-slot : Type 0
+      Need-mul-slot = (c : After-slot-of) → s12 .asks (m9 (c .before) (After-slot-of·gave c))
 
       abbrev m11 : (before : After-locate) → (given : s11 .gives (m8 (before .before) (After-locate·gave before))) → Mo T15
       m11 = λ before given. s13 .next (s12 .next (m9 before given))
 
-      abbrev pub Need-slice-copy-out-e : Type 0
-      Need-slice-copy-out-e = (c : After-place-of) → InSlice T15 1 12 (λ x. x) (λ u. u .1 .1 .1 .1 .1 .1 .0) (m11 (c .before) (After-place-of·gave c))
+      abbrev pub Need-slice-copy-out-slot : Type 0
+      Need-slice-copy-out-slot = (c : After-slot-of) → InSlice T15 1 12 (λ x. x) (λ u. u .1 .1 .1 .1 .1 .1 .0) (m11 (c .before) (After-slot-of·gave c))
 
-      abbrev m16 : (before : After-place-of) → (given : s14 .gives (m11 (before .before) (After-place-of·gave before))) → Mo T20
-      m16 = λ before given. s18 (s17 (s16 (s15 (s14 .next (m11 (before .before) (After-place-of·gave before)) given))))
+      abbrev m16 : (before : After-slot-of) → (given : s14 .gives (m11 (before .before) (After-slot-of·gave before))) → Mo T20
+      m16 = λ before given. s18 (s17 (s16 (s15 (s14 .next (m11 (before .before) (After-slot-of·gave before)) given))))
 
-      module _ (before· : After-place-of) where
-        pub record After-e·own : Type 0 where
-          pub given : s14 .gives (m11 (before· .before) (After-place-of·gave before·))
+      module _ (before· : After-slot-of) where
+        pub record After-slot·own : Type 0 where
+          pub given : s14 .gives (m11 (before· .before) (After-slot-of·gave before·))
 
-      pub record After-e : Type 0 where
-        pub before : After-place-of
-        pub e : After-e·own before
+      pub record After-slot : Type 0 where
+        pub before : After-slot-of
+        pub slot : After-slot·own before
 
       abbrev pub Need-act-requires : Type 0
-      Need-act-requires = (c : After-e) → s19 .asks (m16 (c .before) (c .e .given))
+      Need-act-requires = (c : After-slot) → s19 .asks (m16 (c .before) (c .slot .given))
 
-      abbrev m17 : (before : After-e) → (given : s19 .gives (m16 (before .before) (before .e .given))) → Mo T21
-      m17 = λ before given. s19 .next (m16 (before .before) (before .e .given)) given
+      abbrev m17 : (before : After-slot) → (given : s19 .gives (m16 (before .before) (before .slot .given))) → Mo T21
+      m17 = λ before given. s19 .next (m16 (before .before) (before .slot .given)) given
 
       pub record After-act : Type 0 where
-        pub before : After-e
-        pub act : Called ps·3 r·3 (claims· .7) T20 args·3 (m16 (before .before) (before .e .given))
+        pub before : After-slot
+        pub act : Called ps·3 r·3 (claims· .7) T20 args·3 (m16 (before .before) (before .slot .given))
 
-      abbrev After-act·gave : (c : After-act) → s19 .gives (m16 (c .before .before) (c .before .e .given))
+      abbrev After-act·gave : (c : After-act) → s19 .gives (m16 (c .before .before) (c .before .slot .given))
       After-act·gave = λ c. gave (c .act)
 
-      abbrev m18 : (before : After-e) → (given : s19 .gives (m16 (before .before) (before .e .given))) → Mo T22
+      abbrev m18 : (before : After-slot) → (given : s19 .gives (m16 (before .before) (before .slot .given))) → Mo T22
       m18 = λ before given. s20 (m17 before given)
 
-      abbrev pub Need-entry-after-requires : Type 0
-      Need-entry-after-requires = (c : After-act) → s21 .asks (m18 (c .before) (After-act·gave c))
+      abbrev pub Need-slot-after-requires : Type 0
+      Need-slot-after-requires = (c : After-act) → s21 .asks (m18 (c .before) (After-act·gave c))
 
       abbrev m19 : (before : After-act) → (given : s21 .gives (m18 (before .before) (After-act·gave before))) → Mo T23
       m19 = λ before given. s21 .next (m18 (before .before) (After-act·gave before)) given
 
-      pub record After-entry-after : Type 0 where
+      pub record After-slot-after : Type 0 where
         pub before : After-act
-        pub entry-after : Called ps·4 r·4 (claims· .9) T22 args·4 (m18 (before .before) (After-act·gave before))
+        pub slot-after : Called ps·4 r·4 (claims· .9) T22 args·4 (m18 (before .before) (After-act·gave before))
 
-      abbrev After-entry-after·gave : (c : After-entry-after) → s21 .gives (m18 (c .before .before) (After-act·gave (c .before)))
-      After-entry-after·gave = λ c. gave (c .entry-after)
+      abbrev After-slot-after·gave : (c : After-slot-after) → s21 .gives (m18 (c .before .before) (After-act·gave (c .before)))
+      After-slot-after·gave = λ c. gave (c .slot-after)
 
       abbrev m20 : (before : After-act) → (given : s21 .gives (m18 (before .before) (After-act·gave before))) → Mo T24
       m20 = λ before given. s22 (m19 before given)
 
       abbrev pub Need-mul-t11 : Type 0
-      Need-mul-t11 = (c : After-entry-after) → s23 .asks (m20 (c .before) (After-entry-after·gave c))
+      Need-mul-t11 = (c : After-slot-after) → s23 .asks (m20 (c .before) (After-slot-after·gave c))
 
       abbrev m22 : (before : After-act) → (given : s21 .gives (m18 (before .before) (After-act·gave before))) → Mo T26
       m22 = λ before given. s24 .next (s23 .next (m20 before given))
 
       abbrev pub Need-slice-set-from-table : Type 0
-      Need-slice-set-from-table = (c : After-entry-after) → InSlice T26 1 14 (λ x. x) (λ u. u .1 .1 .1 .1 .1 .1 .0) (m22 (c .before) (After-entry-after·gave c))
+      Need-slice-set-from-table = (c : After-slot-after) → InSlice T26 1 14 (λ x. x) (λ u. u .1 .1 .1 .1 .1 .1 .0) (m22 (c .before) (After-slot-after·gave c))
 
       abbrev m26 : (before : After-act) → (given : s21 .gives (m18 (before .before) (After-act·gave before))) → Mo T30
       m26 = λ before given. s28 (s27 (s26 (s25 .next (m22 before given))))
 
       abbrev pub Need-answer-of-requires : Type 0
-      Need-answer-of-requires = (c : After-entry-after) → s29 .asks (m26 (c .before) (After-entry-after·gave c))
+      Need-answer-of-requires = (c : After-slot-after) → s29 .asks (m26 (c .before) (After-slot-after·gave c))
 
-      abbrev m27 : (before : After-entry-after) → (given : s29 .gives (m26 (before .before) (After-entry-after·gave before))) → Mo T31
-      m27 = λ before given. s29 .next (m26 (before .before) (After-entry-after·gave before)) given
+      abbrev m27 : (before : After-slot-after) → (given : s29 .gives (m26 (before .before) (After-slot-after·gave before))) → Mo T31
+      m27 = λ before given. s29 .next (m26 (before .before) (After-slot-after·gave before)) given
 
       pub record After-answer-of : Type 0 where
-        pub before : After-entry-after
-        pub answer-of : Called ps·5 r·5 (claims· .11) T30 args·5 (m26 (before .before) (After-entry-after·gave before))
+        pub before : After-slot-after
+        pub answer-of : Called ps·5 r·5 (claims· .11) T30 args·5 (m26 (before .before) (After-slot-after·gave before))
 
-      abbrev After-answer-of·gave : (c : After-answer-of) → s29 .gives (m26 (c .before .before) (After-entry-after·gave (c .before)))
+      abbrev After-answer-of·gave : (c : After-answer-of) → s29 .gives (m26 (c .before .before) (After-slot-after·gave (c .before)))
       After-answer-of·gave = λ c. gave (c .answer-of)
 
-      abbrev m30 : (before : After-entry-after) → (given : s29 .gives (m26 (before .before) (After-entry-after·gave before))) → Mo T1
+      abbrev m30 : (before : After-slot-after) → (given : s29 .gives (m26 (before .before) (After-slot-after·gave before))) → Mo T1
       m30 = λ before given. s32 (s31 (s30 (m27 before given)))
 
       abbrev pub Need-same-length : Type 0
@@ -848,21 +845,21 @@ module _ (claims· : Claims) where
       abbrev pub Need-returns : Type 0
       Need-returns = (c : After-answer-of) → Returns (c .before .before .before .before .before .before .before .before .before .before) (m30 (c .before) (After-answer-of·gave c))
 
-      module _ (call-in-requires : Need-call-in-requires) (locate-requires : Need-locate-requires) (place-of-requires : Need-place-of-requires) (mul-e : Need-mul-e) (slice-copy-out-e : Need-slice-copy-out-e) (act-requires : Need-act-requires) (entry-after-requires : Need-entry-after-requires) (mul-t11 : Need-mul-t11) (slice-set-from-table : Need-slice-set-from-table) (answer-of-requires : Need-answer-of-requires) (same-length : Need-same-length) (returns : Need-returns) where
+      module _ (call-in-requires : Need-call-in-requires) (locate-requires : Need-locate-requires) (slot-of-requires : Need-slot-of-requires) (mul-slot : Need-mul-slot) (slice-copy-out-slot : Need-slice-copy-out-slot) (act-requires : Need-act-requires) (slot-after-requires : Need-slot-after-requires) (mul-t11 : Need-mul-t11) (slice-set-from-table : Need-slice-set-from-table) (answer-of-requires : Need-answer-of-requires) (same-length : Need-same-length) (returns : Need-returns) where
         lay6 : (c : After-answer-of) → at3 (Wanted (c .before .before .before .before .before .before .before .before .before .before)) (m27 (c .before) (After-answer-of·gave c))
         lay6 = λ c. ((fix-len (get 1 (T1 .locals) (m30 (c .before) (After-answer-of·gave c)) .ptr) (get 1 (T1 .locals) (m30 (c .before) (After-answer-of·gave c)) .name) (get 1 (T1 .locals) (m30 (c .before) (After-answer-of·gave c)) .now) (dens (c .before .before .before .before .before .before .before .before .before .before .κs) (c .before .before .before .before .before .before .before .before .before .before .args) .0 .now) (same-length c), (refl, (refl, tt))), returns c)
 
-        lay5 : (c : After-entry-after) → at11 (Wanted (c .before .before .before .before .before .before .before .before .before)) (m19 (c .before) (After-entry-after·gave c))
+        lay5 : (c : After-slot-after) → at11 (Wanted (c .before .before .before .before .before .before .before .before .before)) (m19 (c .before) (After-slot-after·gave c))
         lay5 = λ c. (mul-t11 c, (tt, ((refl, refl, slice-set-from-table c), (answer-of-requires c, λ g. lay6 record { before = c; answer-of = called g }))))
 
         lay4 : (c : After-act) → at13 (Wanted (c .before .before .before .before .before .before .before .before)) (m17 (c .before) (After-act·gave c))
-        lay4 = λ c. (entry-after-requires c, λ g. lay5 record { before = c; entry-after = called g })
+        lay4 = λ c. (slot-after-requires c, λ g. lay5 record { before = c; slot-after = called g })
 
-        lay3 : (c : After-place-of) → at21 (Wanted (c .before .before .before .before .before .before)) (m9 (c .before) (After-place-of·gave c))
-        lay3 = λ c. (mul-e c, (tt, ((refl, refl, slice-copy-out-e c), λ g. (act-requires record { before = c; e = record { given = g } }, λ g'. lay4 record { before = record { before = c; e = record { given = g } }; act = called g' }))))
+        lay3 : (c : After-slot-of) → at21 (Wanted (c .before .before .before .before .before .before)) (m9 (c .before) (After-slot-of·gave c))
+        lay3 = λ c. (mul-slot c, (tt, ((refl, refl, slice-copy-out-slot c), λ g. (act-requires record { before = c; slot = record { given = g } }, λ g'. lay4 record { before = record { before = c; slot = record { given = g } }; act = called g' }))))
 
         lay2 : (c : After-locate) → at26 (Wanted (c .before .before .before .before .before)) (m6 (c .before) (After-locate·gave c))
-        lay2 = λ c. (place-of-requires c, λ g. lay3 record { before = c; place-of = called g })
+        lay2 = λ c. (slot-of-requires c, λ g. lay3 record { before = c; slot-of = called g })
 
         lay1 : (c : After-call-in) → at30 (Wanted (c .before .before .before)) (m3 (c .before) (After-call-in·gave c))
         lay1 = λ c. λ g. (refl, (locate-requires record { before = c; locate-arg = record { given = g } }, λ g'. lay2 record { before = record { before = c; locate-arg = record { given = g } }; locate = called g' }))
@@ -874,6 +871,6 @@ module _ (claims· : Claims) where
           pub asked : (a : Dens κs ps) → (good : Kinds.GoodsP κs ps a) → (pre : Pre· κs a) → (bs : List ℕ) → Φ (Any.wantQ 3 ps r xs m κs qs a (Post· κs a)) (init 3 ps r xs m κs qs a)
           asked = λ a good pre bs. laid record { κs = κs; args = record { table = a .0; item = a .1 .0; profile = a .1 .1 .0 }; good = good; pre = pre }
 
-        module _ {M : Type 1} (𝓤 : URA M) (H : Wp.Heap 𝓤) (A : Atoms 𝓤) (W : Given 𝓤 H A) (𝓣 : Wp.Tables 𝓤 H) (known0 : Known 𝓤 H A W 𝓣 1 ps·0 r·0 (claims· .0) (claims· .1) "forms::item::call_in") (known1 : Known 𝓤 H A W 𝓣 1 ps·1 r·1 (claims· .2) (claims· .3) "table::lookup::locate") (known2 : Known 𝓤 H A W 𝓣 0 ps·2 r·2 (claims· .4) (claims· .5) "table::lookup::place_of") (known3 : Known 𝓤 H A W 𝓣 2 ps·3 r·3 (claims· .6) (claims· .7) "table::serve::act") (known4 : Known 𝓤 H A W 𝓣 0 ps·4 r·4 (claims· .8) (claims· .9) "table::serve::entry_after") (known5 : Known 𝓤 H A W 𝓣 0 ps·5 r·5 (claims· .10) (claims· .11) "table::serve::answer_of") where
+        module _ {M : Type 1} (𝓤 : URA M) (H : Wp.Heap 𝓤) (A : Atoms 𝓤) (W : Given 𝓤 H A) (𝓣 : Wp.Tables 𝓤 H) (known0 : Known 𝓤 H A W 𝓣 1 ps·0 r·0 (claims· .0) (claims· .1) "forms::item::call_in") (known1 : Known 𝓤 H A W 𝓣 1 ps·1 r·1 (claims· .2) (claims· .3) "table::lookup::locate") (known2 : Known 𝓤 H A W 𝓣 0 ps·2 r·2 (claims· .4) (claims· .5) "table::lookup::slot_of") (known3 : Known 𝓤 H A W 𝓣 2 ps·3 r·3 (claims· .6) (claims· .7) "table::serve::act") (known4 : Known 𝓤 H A W 𝓣 0 ps·4 r·4 (claims· .8) (claims· .9) "table::serve::slot_after") (known5 : Known 𝓤 H A W 𝓣 0 ps·5 r·5 (claims· .10) (claims· .11) "table::serve::answer_of") where
           pub spec : Triple 𝓤 (Wp.WpFn 𝓤 H (𝓣 .C) (𝓣 .Λ) (fnOf 3 ps r xs m hs body)) (plainOf 𝓤 H A 3 ps r Pre· Post·)
           spec = t-fn-plain 𝓤 H A W 𝓣 3 ps r xs m hs body (λ κs qs bs. Φ) (λ κs qs bs bd. typed κs qs 𝓤 H A W 𝓣 (known0, known1, known2, known3, known4, known5) bs bd) Pre· Post· asked

@@ -12,18 +12,18 @@ use Rattle.table.proofs.feed.feed_sound.Statement
 use Rattle.table.proofs.lookup.locate.Met as Met'
 use Rattle.table.proofs.Lent.lookup_locate_Reads as Reads''
 use Rattle.table.proofs.lookup.locate.Symbol as Symbol'
-use Rattle.table.proofs.lookup.place_of.Met as Met''
-use Rattle.table.proofs.lookup.place_of.Reads as Reads'3
-use Rattle.table.proofs.lookup.place_of.Symbol as Symbol''
+use Rattle.table.proofs.lookup.slot_of.Met as Met''
+use Rattle.table.proofs.lookup.slot_of.Reads as Reads'3
+use Rattle.table.proofs.lookup.slot_of.Symbol as Symbol''
 use Rattle.table.proofs.serve.act.Met as Met'3
 use Rattle.table.proofs.serve.act.Reads as Reads'4
 use Rattle.table.proofs.serve.act.Symbol as Symbol'3
 use Rattle.table.proofs.serve.answer_of.Met as Met'4
 use Rattle.table.proofs.serve.answer_of.Reads as Reads'5
 use Rattle.table.proofs.serve.answer_of.Symbol as Symbol'4
-use Rattle.table.proofs.serve.entry_after.Met as Met'5
-use Rattle.table.proofs.serve.entry_after.Reads as Reads'6
-use Rattle.table.proofs.serve.entry_after.Symbol as Symbol'5
+use Rattle.table.proofs.serve.slot_after.Met as Met'5
+use Rattle.table.proofs.serve.slot_after.Reads as Reads'6
+use Rattle.table.proofs.serve.slot_after.Symbol as Symbol'5
 use borrow.Fn.Run
 use borrow.Fn.Written
 use contract.Running
@@ -49,17 +49,17 @@ After-locate-arg = Lts.After-locate-arg given Pre Post
 abbrev pub After-locate : Type 0
 After-locate = Lts.After-locate given Pre Post
 
-abbrev pub After-place-of : Type 0
-After-place-of = Lts.After-place-of given Pre Post
+abbrev pub After-slot-of : Type 0
+After-slot-of = Lts.After-slot-of given Pre Post
 
-abbrev pub After-e : Type 0
-After-e = Lts.After-e given Pre Post
+abbrev pub After-slot : Type 0
+After-slot = Lts.After-slot given Pre Post
 
 abbrev pub After-act : Type 0
 After-act = Lts.After-act given Pre Post
 
-abbrev pub After-entry-after : Type 0
-After-entry-after = Lts.After-entry-after given Pre Post
+abbrev pub After-slot-after : Type 0
+After-slot-after = Lts.After-slot-after given Pre Post
 
 abbrev pub After-answer-of : Type 0
 After-answer-of = Lts.After-answer-of given Pre Post
@@ -70,20 +70,20 @@ Need-call-in-requires = Lts.Need-call-in-requires given Pre Post
 abbrev pub Need-locate-requires : Type 0
 Need-locate-requires = Lts.Need-locate-requires given Pre Post
 
-abbrev pub Need-place-of-requires : Type 0
-Need-place-of-requires = Lts.Need-place-of-requires given Pre Post
+abbrev pub Need-slot-of-requires : Type 0
+Need-slot-of-requires = Lts.Need-slot-of-requires given Pre Post
 
-abbrev pub Need-mul-e : Type 0
-Need-mul-e = Lts.Need-mul-e given Pre Post
+abbrev pub Need-mul-slot : Type 0
+Need-mul-slot = Lts.Need-mul-slot given Pre Post
 
-abbrev pub Need-slice-copy-out-e : Type 0
-Need-slice-copy-out-e = Lts.Need-slice-copy-out-e given Pre Post
+abbrev pub Need-slice-copy-out-slot : Type 0
+Need-slice-copy-out-slot = Lts.Need-slice-copy-out-slot given Pre Post
 
 abbrev pub Need-act-requires : Type 0
 Need-act-requires = Lts.Need-act-requires given Pre Post
 
-abbrev pub Need-entry-after-requires : Type 0
-Need-entry-after-requires = Lts.Need-entry-after-requires given Pre Post
+abbrev pub Need-slot-after-requires : Type 0
+Need-slot-after-requires = Lts.Need-slot-after-requires given Pre Post
 
 abbrev pub Need-mul-t11 : Type 0
 Need-mul-t11 = Lts.Need-mul-t11 given Pre Post
@@ -101,9 +101,9 @@ abbrev pub Need-returns : Type 0
 Need-returns = Lts.Need-returns given Pre Post
 
 module _ {M : Type 1} where
-  pub spec : Need-call-in-requires → Need-locate-requires → Need-place-of-requires → Need-mul-e → Need-slice-copy-out-e → Need-act-requires → Need-entry-after-requires → Need-mul-t11 → Need-slice-set-from-table → Need-answer-of-requires → Need-same-length → Need-returns → Lts.Closed given Pre Post M
+  pub spec : Need-call-in-requires → Need-locate-requires → Need-slot-of-requires → Need-mul-slot → Need-slice-copy-out-slot → Need-act-requires → Need-slot-after-requires → Need-mul-t11 → Need-slice-set-from-table → Need-answer-of-requires → Need-same-length → Need-returns → Lts.Closed given Pre Post M
   spec = λ a0 a1 a2 a3 a4 a5 a6 a7 a8 a9 a10 a11. Lts.spec given Pre Post a0 a1 a2 a3 a4 a5 a6 a7 a8 a9 a10 a11
 
   pub close : Lts.Closed given Pre Post M → Statement.statement M
   unfolding Code.routine Running.tablesOf
-  close = λ closed 𝓤 H 𝓜 𝓖 𝓡. let w : World = record { M = M; 𝓤 = 𝓤; H = H; 𝓜 = 𝓜; 𝓖 = 𝓖; 𝓡 = 𝓡 } in Written.close 3 Kinds.ps Kinds.r Ghost requires ensures pre-read Pinned Owned post-read w Code.env Key.name Code.function (Code.unfolded 𝓤 H 𝓜 𝓡) (λ κs a g. tt) (λ κs. owns κs w) (passes w) λ g. closed 𝓤 H (𝓖 .A) (Running.givenOf 𝓤 H 𝓜 𝓖) (Run.Over 𝓤 H 𝓜 𝓖 𝓡 Code.env) (Reads.known w Code.env Symbol.name Symbol.routine Code.calls-forms·item·call-in (Met.met 𝓤 H 𝓜 𝓖 𝓡)) (Reads''.known w Code.env Symbol'.name Symbol'.routine Code.calls-table·lookup·locate (Met'.met 𝓤 H 𝓜 𝓖 𝓡)) (Reads'3.known w Code.env Symbol''.name Symbol''.routine Code.calls-table·lookup·place-of (Met''.met 𝓤 H 𝓜 𝓖 𝓡)) (Reads'4.known w Code.env Symbol'3.name Symbol'3.routine Code.calls-table·serve·act (Met'3.met 𝓤 H 𝓜 𝓖 𝓡)) (Reads'6.known w Code.env Symbol'5.name Symbol'5.routine Code.calls-table·serve·entry-after (Met'5.met 𝓤 H 𝓜 𝓖 𝓡)) (Reads'5.known w Code.env Symbol'4.name Symbol'4.routine Code.calls-table·serve·answer-of (Met'4.met 𝓤 H 𝓜 𝓖 𝓡))
+  close = λ closed 𝓤 H 𝓜 𝓖 𝓡. let w : World = record { M = M; 𝓤 = 𝓤; H = H; 𝓜 = 𝓜; 𝓖 = 𝓖; 𝓡 = 𝓡 } in Written.close 3 Kinds.ps Kinds.r Ghost requires ensures pre-read Pinned Owned post-read w Code.env Key.name Code.function (Code.unfolded 𝓤 H 𝓜 𝓡) (λ κs a g. tt) (λ κs. owns κs w) (passes w) λ g. closed 𝓤 H (𝓖 .A) (Running.givenOf 𝓤 H 𝓜 𝓖) (Run.Over 𝓤 H 𝓜 𝓖 𝓡 Code.env) (Reads.known w Code.env Symbol.name Symbol.routine Code.calls-forms·item·call-in (Met.met 𝓤 H 𝓜 𝓖 𝓡)) (Reads''.known w Code.env Symbol'.name Symbol'.routine Code.calls-table·lookup·locate (Met'.met 𝓤 H 𝓜 𝓖 𝓡)) (Reads'3.known w Code.env Symbol''.name Symbol''.routine Code.calls-table·lookup·slot-of (Met''.met 𝓤 H 𝓜 𝓖 𝓡)) (Reads'4.known w Code.env Symbol'3.name Symbol'3.routine Code.calls-table·serve·act (Met'3.met 𝓤 H 𝓜 𝓖 𝓡)) (Reads'6.known w Code.env Symbol'5.name Symbol'5.routine Code.calls-table·serve·slot-after (Met'5.met 𝓤 H 𝓜 𝓖 𝓡)) (Reads'5.known w Code.env Symbol'4.name Symbol'4.routine Code.calls-table·serve·answer-of (Met'4.met 𝓤 H 𝓜 𝓖 𝓡))

@@ -6,8 +6,8 @@ use Rattle.table.proofs.Joins.{cx, then, yields}
 use Rattle.table.proofs.ByValue
 use Rattle.table.proofs.Elem
 use Prim.Native.Nat.{_<_, _≤_, ℕ}
-use Rattle.table.proofs.entry.Owner
-use Rattle.table.proofs.entry.Owner.Laws
+use Rattle.table.proofs.slot.Owner
+use Rattle.table.proofs.slot.Owner.Laws
 use borrow.Author.Called.{Called}
 use borrow.Author.Tests
 use borrow.Fn.Any
@@ -591,43 +591,43 @@ module _ (claims· : Claims) where
         pub before : At-loop
         pub loop-test : After-loop·own before
 
-      abbrev pub Need-mul-e : Type 0
-      Need-mul-e = (c : In-loop) → s5 .asks (m4 (c .before))
+      abbrev pub Need-mul-slot : Type 0
+      Need-mul-slot = (c : In-loop) → s5 .asks (m4 (c .before))
 
       abbrev m8 : (before : At-loop) → Mo T10
       m8 = λ before. s6 .next (s5 .next (m4 before))
 
-      abbrev pub Need-shared-slice-copy-out-e : Type 0
-      Need-shared-slice-copy-out-e = (c : In-loop) → Shared.InSlice T10 1 7 (λ x. x) (λ u. u .1 .1 .1 .0) (m8 (c .before))
+      abbrev pub Need-shared-slice-copy-out-slot : Type 0
+      Need-shared-slice-copy-out-slot = (c : In-loop) → Shared.InSlice T10 1 7 (λ x. x) (λ u. u .1 .1 .1 .0) (m8 (c .before))
 
       abbrev m13 : (before : In-loop) → (given : s7 .gives (m8 (before .before))) → Mo T15
       m13 = λ before given. s11 (s10 (s9 (s8 (s7 .next (m8 (before .before)) given))))
 
       module _ (before· : In-loop) where
-        pub record After-e·own : Type 0 where
+        pub record After-slot·own : Type 0 where
           pub given : s7 .gives (m8 (before· .before))
 
-      pub record After-e : Type 0 where
+      pub record After-slot : Type 0 where
         pub before : In-loop
-        pub e : After-e·own before
+        pub slot : After-slot·own before
 
       abbrev pub Need-is-of-requires : Type 0
-      Need-is-of-requires = (c : After-e) → s12 .asks (m13 (c .before) (c .e .given))
+      Need-is-of-requires = (c : After-slot) → s12 .asks (m13 (c .before) (c .slot .given))
 
-      abbrev m14 : (before : After-e) → (given : s12 .gives (m13 (before .before) (before .e .given))) → Mo T16
-      m14 = λ before given. s12 .next (m13 (before .before) (before .e .given)) given
+      abbrev m14 : (before : After-slot) → (given : s12 .gives (m13 (before .before) (before .slot .given))) → Mo T16
+      m14 = λ before given. s12 .next (m13 (before .before) (before .slot .given)) given
 
       pub record After-is-of : Type 0 where
-        pub before : After-e
-        pub is-of : Called ps·0 r·0 (claims· .1) T15 args·0 (m13 (before .before) (before .e .given))
+        pub before : After-slot
+        pub is-of : Called ps·0 r·0 (claims· .1) T15 args·0 (m13 (before .before) (before .slot .given))
 
-      abbrev After-is-of·gave : (c : After-is-of) → s12 .gives (m13 (c .before .before) (c .before .e .given))
+      abbrev After-is-of·gave : (c : After-is-of) → s12 .gives (m13 (c .before .before) (c .before .slot .given))
       After-is-of·gave = λ c. Joins.gave (c .is-of)
 
-      abbrev W5 : (before : After-e) → (given : s12 .gives (m13 (before .before) (before .e .given))) → Want O4
+      abbrev W5 : (before : After-slot) → (given : s12 .gives (m13 (before .before) (before .slot .given))) → Want O4
       W5 = λ before given. wantNext T2 O3 (at15 (W3 (before .before .before .before) (before .before .before .loop .i))) (W3 (before .before .before .before) (before .before .before .loop .i))
 
-      abbrev m15 : (before : After-e) → (given : s12 .gives (m13 (before .before) (before .e .given))) → Mo T18
+      abbrev m15 : (before : After-slot) → (given : s12 .gives (m13 (before .before) (before .slot .given))) → Mo T18
       m15 = λ before given. s13 (m14 before given)
 
       module _ (before· : After-is-of) where
@@ -667,7 +667,7 @@ module _ (claims· : Claims) where
       abbrev pub Need-returns-2 : Type 0
       Need-returns-2 = (c : After-loop) → Returns (c .before .before) (s17 (s20 (s4 (s3 (m3 ((c .before) .before) ((c .before) .loop .i))))))
 
-      module _ (loop-holds : Need-loop-holds) (mul-e : Need-mul-e) (shared-slice-copy-out-e : Need-shared-slice-copy-out-e) (is-of-requires : Need-is-of-requires) (returns : Need-returns) (add-i : Need-add-i) (loop-less : Need-loop-less) (loop-again : Need-loop-again) (returns-2 : Need-returns-2) where
+      module _ (loop-holds : Need-loop-holds) (mul-slot : Need-mul-slot) (shared-slice-copy-out-slot : Need-shared-slice-copy-out-slot) (is-of-requires : Need-is-of-requires) (returns : Need-returns) (add-i : Need-add-i) (loop-less : Need-loop-less) (loop-again : Need-loop-again) (returns-2 : Need-returns-2) where
         lay5 : (c : Else1) → at15 (W3 (c .before .before .before .before .before) (c .before .before .before .before .loop .i)) (m20 (c .before))
         lay5 = λ c. (add-i c, (left·0 (m1 (c .before .before .before .before .before)) (turn·0 (m21 (c .before))), loop-less c, (get 3 (T2 .locals) (m21 (c .before)), refl {a = m21 (c .before)}, loop-again c, refl {a = left·0 (m1 (c .before .before .before .before .before)) (turn·0 (m21 (c .before)))})))
 
@@ -675,7 +675,7 @@ module _ (claims· : Claims) where
         lay4 = λ c. (λ taken. ((refl, (tt, tt)), returns record { before = c; if1 = record { taken = taken } }), λ left. lay5 record { before = c; if1 = record { left = left } })
 
         lay1 : (c : In-loop) → at1 (wantNext T2 O3 (at24 (W3 (c .before .before) (c .before .loop .i))) (W3 (c .before .before) (c .before .loop .i))) (m3 (c .before .before) (c .before .loop .i))
-        lay1 = λ c. (mul-e c, (tt, ((refl, refl, shared-slice-copy-out-e c), λ g. (is-of-requires record { before = c; e = record { given = g } }, λ g'. lay4 record { before = record { before = c; e = record { given = g } }; is-of = Joins.called g' }))))
+        lay1 = λ c. (mul-slot c, (tt, ((refl, refl, shared-slice-copy-out-slot c), λ g. (is-of-requires record { before = c; slot = record { given = g } }, λ g'. lay4 record { before = record { before = c; slot = record { given = g } }; is-of = Joins.called g' }))))
 
         pub laid : (c : Start) → at33 (Wanted c) (m0 (c .κs) (c .args))
         laid = λ c. ((get 3 (T2 .locals) (m1 c), refl {a = m1 c}, loop-holds c), λ vs inv. (tt, (λ taken. lay1 record { before = record { before = c; loop = record { i = vs; inv = inv } }; loop-test = record { taken = Tests.ltb-true (get 3 (T2 .locals) (m2 c vs)) 64 taken } }, λ left. ((refl, (tt, tt)), returns-2 record { before = record { before = c; loop = record { i = vs; inv = inv } }; loop-test = record { left = Tests.ltb-false (get 3 (T2 .locals) (m2 c vs)) 64 left } }))))

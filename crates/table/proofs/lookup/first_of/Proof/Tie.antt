@@ -35,8 +35,8 @@ module _ (Inv : InvT-loop) (μ : MeasureT-loop) where
   abbrev pub After-loop : Type 0
   After-loop = Lts.After-loop given Pre Post Inv μ
 
-  abbrev pub After-e : Type 0
-  After-e = Lts.After-e given Pre Post Inv μ
+  abbrev pub After-slot : Type 0
+  After-slot = Lts.After-slot given Pre Post Inv μ
 
   abbrev pub After-is-of : Type 0
   After-is-of = Lts.After-is-of given Pre Post Inv μ
@@ -50,11 +50,11 @@ module _ (Inv : InvT-loop) (μ : MeasureT-loop) where
   abbrev pub Need-loop-holds : Type 0
   Need-loop-holds = Lts.Need-loop-holds given Pre Post Inv μ
 
-  abbrev pub Need-mul-e : Type 0
-  Need-mul-e = Lts.Need-mul-e given Pre Post Inv μ
+  abbrev pub Need-mul-slot : Type 0
+  Need-mul-slot = Lts.Need-mul-slot given Pre Post Inv μ
 
-  abbrev pub Need-shared-slice-copy-out-e : Type 0
-  Need-shared-slice-copy-out-e = Lts.Need-shared-slice-copy-out-e given Pre Post Inv μ
+  abbrev pub Need-shared-slice-copy-out-slot : Type 0
+  Need-shared-slice-copy-out-slot = Lts.Need-shared-slice-copy-out-slot given Pre Post Inv μ
 
   abbrev pub Need-is-of-requires : Type 0
   Need-is-of-requires = Lts.Need-is-of-requires given Pre Post Inv μ
@@ -74,7 +74,7 @@ module _ (Inv : InvT-loop) (μ : MeasureT-loop) where
   abbrev pub Need-returns-2 : Type 0
   Need-returns-2 = Lts.Need-returns-2 given Pre Post Inv μ
 
-  pub spec : {M : Type 1} → Need-loop-holds → Need-mul-e → Need-shared-slice-copy-out-e → Need-is-of-requires → Need-returns → Need-add-i → Need-loop-less → Need-loop-again → Need-returns-2 → Lts.Closed given Pre Post M
+  pub spec : {M : Type 1} → Need-loop-holds → Need-mul-slot → Need-shared-slice-copy-out-slot → Need-is-of-requires → Need-returns → Need-add-i → Need-loop-less → Need-loop-again → Need-returns-2 → Lts.Closed given Pre Post M
   spec = λ a0 a1 a2 a3 a4 a5 a6 a7 a8. Lts.spec given Pre Post Inv μ a0 a1 a2 a3 a4 a5 a6 a7 a8
 
 module _ {M : Type 1} where

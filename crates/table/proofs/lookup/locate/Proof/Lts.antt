@@ -6,10 +6,10 @@ use Rattle.table.proofs.Joins.{cx, then}
 use Rattle.table.proofs.ByValue
 use Rattle.table.proofs.Elem
 use Prim.Native.Nat.{_<_, _≤_, ℕ}
-use Rattle.table.proofs.entry.Owner
-use Rattle.table.proofs.entry.Owner.Laws
 use Rattle.table.proofs.lookup.Spot
-use Rattle.table.proofs.lookup.Spot.Laws as Laws'
+use Rattle.table.proofs.lookup.Spot.Laws
+use Rattle.table.proofs.slot.Owner
+use Rattle.table.proofs.slot.Owner.Laws as Laws'
 use borrow.Author.Called.{Called}
 use borrow.Author.Tests
 use borrow.Enum.Make.{made-is, made-val, n-enum-make, t-enum-make-wt}
@@ -75,7 +75,7 @@ abbrev en·4 : Entry
 en·4 = (3, sc-here (sInt w64))
 
 abbrev en·5 : Entry
-en·5 = (5, any-gone Laws.mir)
+en·5 = (5, any-gone Laws'.mir)
 
 abbrev en·6 : Entry
 en·6 = (4, sc-here (sInt w64))
@@ -84,7 +84,7 @@ abbrev en·7 : Entry
 en·7 = (3, any-gone (tyInt w64))
 
 abbrev en·8 : Entry
-en·8 = (0, any-gone Laws'.mir)
+en·8 = (0, any-gone Laws.mir)
 
 abbrev en·9 : Entry
 en·9 = (0, whole Spot·row)
@@ -114,16 +114,16 @@ abbrev ps : List (PK 1)
 ps = (pShrS Elem.row 0 tt) ∷ (Num.pNum w32) ∷ []
 
 abbrev r : RK 1
-r = ByValue.enum-res Spot.the-type Laws'.the-laws Laws'.the-copy Laws'.the-plain refl tt
+r = ByValue.enum-res Spot.the-type Laws.the-laws Laws.the-copy Laws.the-plain refl tt
 
 abbrev xs : List Ty
-xs = (tyInt w64) ∷ (tyInt w64) ∷ Laws.mir ∷ tyBool ∷ []
+xs = (tyInt w64) ∷ (tyInt w64) ∷ Laws'.mir ∷ tyBool ∷ []
 
 abbrev m : ℕ
 m = 0
 
 abbrev ps·0 : List (PK 1)
-ps·0 = (pShrS Elem.row 0 tt) ∷ (ByValue.enum-par Owner.the-type Laws.the-laws Laws.the-copy Laws.the-plain refl tt) ∷ []
+ps·0 = (pShrS Elem.row 0 tt) ∷ (ByValue.enum-par Owner.the-type Laws'.the-laws Laws'.the-copy Laws'.the-plain refl tt) ∷ []
 
 abbrev r·0 : RK 1
 r·0 = Num.rNum w64
@@ -289,7 +289,7 @@ module _ (claims· : Claims) where
   s1 = Call.callB ps·0 r·0 (claims· .0) (claims· .1) T2 args·0 3 (0 ∷ []) (tyInt w64)
 
   abbrev s2 : Mo T3 → Mo T4
-  s2 = n-room T3 5 Laws.mir
+  s2 = n-room T3 5 Laws'.mir
 
   abbrev s3 : Asks T4 T5
   s3 = k-op2 T4 (lt unsigned) (oAt 3 (tyInt w64) (valS (sInt w64))) (oInt w64 64) 6 (sc-here sBool) (sBool .of)
@@ -313,7 +313,7 @@ module _ (claims· : Claims) where
   s10 = Call.callB ps·0 r·0 (claims· .0) (claims· .1) T3 args·1 4 (0 ∷ []) (tyInt w64)
 
   abbrev s11 : Mo T13 → Mo T14
-  s11 = n-room T13 5 Laws.mir
+  s11 = n-room T13 5 Laws'.mir
 
   abbrev s12 : Asks T14 T15
   s12 = k-op2 T14 (lt unsigned) (oAt 4 (tyInt w64) (valS (sInt w64))) (oInt w64 64) 6 (sc-here sBool) (sBool .of)
@@ -442,16 +442,16 @@ module _ (claims· : Claims) where
           Does = Typed 𝓤 H A 𝓣 E
 
           d22 : Does G15 b19 Δ0 at22
-          d22 = t-seq 𝓤 H A W 𝓣 E G15 G14 b15 b18 Δ0 at16 at21 (t-cond 𝓤 H A W E 𝓣 G15 6 (λ x. x) b13 b6 Δ2 at13 at15 (reads-sc 𝓤 H A W sBool) refl (Joins.pre W (g-room 𝓤 H A W E G15 6 tyBool (room-sc 𝓤 H A W sBool)) (then W (t-enum-make-wt 𝓤 H A W E 𝓣 Spot.the-type Laws'.the-laws Laws'.the-plain tt G14 0 ((oInt w8 1) ∷ (oAt 4 (tyInt w64) (valS (sInt w64))) ∷ []) (λ m. Spot.enum .make (inr (inl (m .1 .1 .1 .1 .0, tt)))) (room-gone 𝓤 H A Laws'.mir) (tt, ((reads-sc 𝓤 H A W (sInt w64), refl), tt)) refl (λ m wa. made-val Spot.the-type Laws'.the-laws ((Laws'.the-laws .1 .0 .0 .val (m .1 .1 .1 .1 .0)) ∷ []) (Spot.enum .make (inr (inl (m .1 .1 .1 .1 .0, tt)))) (made-wt u64-field (Laws'.the-laws .1 .0 .0) u64-wt (m .1 .1 .1 .1 .0), tt) (wa .1)) λ m wa. made-is Spot.the-type Laws'.the-laws ((Laws'.the-laws .1 .0 .0 .val (m .1 .1 .1 .1 .0)) ∷ []) (Spot.enum .make (inr (inl (m .1 .1 .1 .1 .0, tt)))) (made-wt u64-field (Laws'.the-laws .1 .0 .0) u64-wt (m .1 .1 .1 .1 .0), tt) (wa .1)) (Joins.pre W (g-room 𝓤 H A W E G18 2 (tyInt w32) (room-sc 𝓤 H A W (sInt w32))) (Joins.pre W (g-room 𝓤 H A W E (cx t12 ls·0) 3 (tyInt w64) (room-sc 𝓤 H A W (sInt w64))) (Joins.pre W (g-room 𝓤 H A W E (cx t13 ls·0) 4 (tyInt w64) (room-sc 𝓤 H A W (sInt w64))) (t-return 𝓤 H A W 𝓣 E Δ2 tt)))))) (Joins.pre W (g-room 𝓤 H A W E G15 6 tyBool (room-sc 𝓤 H A W sBool)) (t-skip 𝓤 H A W 𝓣 E Δ2 tt))) (then W (t-enum-make-wt 𝓤 H A W E 𝓣 Spot.the-type Laws'.the-laws Laws'.the-plain tt G14 0 ((oInt w8 0) ∷ []) (λ m. Spot.enum .make (inl tt)) (room-gone 𝓤 H A Laws'.mir) (tt, tt) refl (λ m wa. made-val Spot.the-type Laws'.the-laws [] (Spot.enum .make (inl tt)) tt (wa .1)) λ m wa. made-is Spot.the-type Laws'.the-laws [] (Spot.enum .make (inl tt)) tt (wa .1)) (Joins.pre W (g-room 𝓤 H A W E G18 3 (tyInt w64) (room-sc 𝓤 H A W (sInt w64))) (Joins.pre W (g-room 𝓤 H A W E (cx t14 ls·0) 4 (tyInt w64) (room-sc 𝓤 H A W (sInt w64))) (Joins.pre W (g-room 𝓤 H A W E (cx t15 ls·0) 2 (tyInt w32) (room-sc 𝓤 H A W (sInt w32))) (t-return 𝓤 H A W 𝓣 E Δ0 tt)))))
+          d22 = t-seq 𝓤 H A W 𝓣 E G15 G14 b15 b18 Δ0 at16 at21 (t-cond 𝓤 H A W E 𝓣 G15 6 (λ x. x) b13 b6 Δ2 at13 at15 (reads-sc 𝓤 H A W sBool) refl (Joins.pre W (g-room 𝓤 H A W E G15 6 tyBool (room-sc 𝓤 H A W sBool)) (then W (t-enum-make-wt 𝓤 H A W E 𝓣 Spot.the-type Laws.the-laws Laws.the-plain tt G14 0 ((oInt w8 1) ∷ (oAt 4 (tyInt w64) (valS (sInt w64))) ∷ []) (λ m. Spot.enum .make (inr (inl (m .1 .1 .1 .1 .0, tt)))) (room-gone 𝓤 H A Laws.mir) (tt, ((reads-sc 𝓤 H A W (sInt w64), refl), tt)) refl (λ m wa. made-val Spot.the-type Laws.the-laws ((Laws.the-laws .1 .0 .0 .val (m .1 .1 .1 .1 .0)) ∷ []) (Spot.enum .make (inr (inl (m .1 .1 .1 .1 .0, tt)))) (made-wt u64-field (Laws.the-laws .1 .0 .0) u64-wt (m .1 .1 .1 .1 .0), tt) (wa .1)) λ m wa. made-is Spot.the-type Laws.the-laws ((Laws.the-laws .1 .0 .0 .val (m .1 .1 .1 .1 .0)) ∷ []) (Spot.enum .make (inr (inl (m .1 .1 .1 .1 .0, tt)))) (made-wt u64-field (Laws.the-laws .1 .0 .0) u64-wt (m .1 .1 .1 .1 .0), tt) (wa .1)) (Joins.pre W (g-room 𝓤 H A W E G18 2 (tyInt w32) (room-sc 𝓤 H A W (sInt w32))) (Joins.pre W (g-room 𝓤 H A W E (cx t12 ls·0) 3 (tyInt w64) (room-sc 𝓤 H A W (sInt w64))) (Joins.pre W (g-room 𝓤 H A W E (cx t13 ls·0) 4 (tyInt w64) (room-sc 𝓤 H A W (sInt w64))) (t-return 𝓤 H A W 𝓣 E Δ2 tt)))))) (Joins.pre W (g-room 𝓤 H A W E G15 6 tyBool (room-sc 𝓤 H A W sBool)) (t-skip 𝓤 H A W 𝓣 E Δ2 tt))) (then W (t-enum-make-wt 𝓤 H A W E 𝓣 Spot.the-type Laws.the-laws Laws.the-plain tt G14 0 ((oInt w8 0) ∷ []) (λ m. Spot.enum .make (inl tt)) (room-gone 𝓤 H A Laws.mir) (tt, tt) refl (λ m wa. made-val Spot.the-type Laws.the-laws [] (Spot.enum .make (inl tt)) tt (wa .1)) λ m wa. made-is Spot.the-type Laws.the-laws [] (Spot.enum .make (inl tt)) tt (wa .1)) (Joins.pre W (g-room 𝓤 H A W E G18 3 (tyInt w64) (room-sc 𝓤 H A W (sInt w64))) (Joins.pre W (g-room 𝓤 H A W E (cx t14 ls·0) 4 (tyInt w64) (room-sc 𝓤 H A W (sInt w64))) (Joins.pre W (g-room 𝓤 H A W E (cx t15 ls·0) 2 (tyInt w32) (room-sc 𝓤 H A W (sInt w32))) (t-return 𝓤 H A W 𝓣 E Δ0 tt)))))
 
           d26 : Does G4 b22 Δ0 at26
-          d26 = then W (t-enum-make-wt 𝓤 H A W E 𝓣 Owner.the-type Laws.the-laws Laws.the-plain tt G4 5 ((oInt w8 0) ∷ []) (λ m. Owner.enum .make (inl tt)) (room-gone 𝓤 H A Laws.mir) (tt, tt) refl (λ m wa. made-val Owner.the-type Laws.the-laws [] (Owner.enum .make (inl tt)) tt (wa .1)) λ m wa. made-is Owner.the-type Laws.the-laws [] (Owner.enum .make (inl tt)) tt (wa .1)) (then W (t-call-plain 𝓤 H A W 𝓣 1 ps·0 r·0 (claims· .0) (claims· .1) "table::lookup::first_of" known E (λ pos β. β) G3 (record { pos = 1; ty = tyRef (named 0) imm Elem.pointed; ref = λ x. x }, (record { pos = 5; st = []; d = 0; at = λ x. x }, tt)) 4 (0 ∷ []) (Call.sub-id 𝓤 H A W (G3 .slots)) (spares-sslice 𝓤 H A W Elem.row ty·0 0, Shared.reads-sslice 𝓤 H A W Elem.row ty·0 0, refl, ((Joins.yields W Owner·row refl (cEnum Owner.the-type Laws.the-laws Laws.the-copy), refl), tt)) (room-gone 𝓤 H A (tyInt w64)) (tt, tt) refl) (Joins.pre W (g-room 𝓤 H A W E (cx t8 ls·0) 5 Laws.mir (Local.room-whole 𝓤 H A W Owner·row Laws.mir refl)) (then W (t-op2 𝓤 H A W E 𝓣 G14 (lt unsigned) (oAt 4 (tyInt w64) (valS (sInt w64))) (oInt w64 64) 6 (sc-here sBool) tyBool (valS sBool) (sBool .of) (reads-sc 𝓤 H A W (sInt w64), refl) tt (room-gone 𝓤 H A tyBool) (holds-sc 𝓤 H A W sBool) refl (λ u. refl) λ u. tt) d22)))
+          d26 = then W (t-enum-make-wt 𝓤 H A W E 𝓣 Owner.the-type Laws'.the-laws Laws'.the-plain tt G4 5 ((oInt w8 0) ∷ []) (λ m. Owner.enum .make (inl tt)) (room-gone 𝓤 H A Laws'.mir) (tt, tt) refl (λ m wa. made-val Owner.the-type Laws'.the-laws [] (Owner.enum .make (inl tt)) tt (wa .1)) λ m wa. made-is Owner.the-type Laws'.the-laws [] (Owner.enum .make (inl tt)) tt (wa .1)) (then W (t-call-plain 𝓤 H A W 𝓣 1 ps·0 r·0 (claims· .0) (claims· .1) "table::lookup::first_of" known E (λ pos β. β) G3 (record { pos = 1; ty = tyRef (named 0) imm Elem.pointed; ref = λ x. x }, (record { pos = 5; st = []; d = 0; at = λ x. x }, tt)) 4 (0 ∷ []) (Call.sub-id 𝓤 H A W (G3 .slots)) (spares-sslice 𝓤 H A W Elem.row ty·0 0, Shared.reads-sslice 𝓤 H A W Elem.row ty·0 0, refl, ((Joins.yields W Owner·row refl (cEnum Owner.the-type Laws'.the-laws Laws'.the-copy), refl), tt)) (room-gone 𝓤 H A (tyInt w64)) (tt, tt) refl) (Joins.pre W (g-room 𝓤 H A W E (cx t8 ls·0) 5 Laws'.mir (Local.room-whole 𝓤 H A W Owner·row Laws'.mir refl)) (then W (t-op2 𝓤 H A W E 𝓣 G14 (lt unsigned) (oAt 4 (tyInt w64) (valS (sInt w64))) (oInt w64 64) 6 (sc-here sBool) tyBool (valS sBool) (sBool .of) (reads-sc 𝓤 H A W (sInt w64), refl) tt (room-gone 𝓤 H A tyBool) (holds-sc 𝓤 H A W sBool) refl (λ u. refl) λ u. tt) d22)))
 
           d30 : Does G2 b25 Δ0 at30
-          d30 = then W (t-call-plain 𝓤 H A W 𝓣 1 ps·0 r·0 (claims· .0) (claims· .1) "table::lookup::first_of" known E (λ pos β. β) G2 (record { pos = 1; ty = tyRef (named 0) imm Elem.pointed; ref = λ x. x }, (record { pos = 5; st = []; d = 0; at = λ x. x }, tt)) 3 (0 ∷ []) (Call.sub-id 𝓤 H A W (G2 .slots)) (spares-sslice 𝓤 H A W Elem.row ty·0 0, Shared.reads-sslice 𝓤 H A W Elem.row ty·0 0, refl, ((Joins.yields W Owner·row refl (cEnum Owner.the-type Laws.the-laws Laws.the-copy), refl), tt)) (room-gone 𝓤 H A (tyInt w64)) (tt, tt) refl) (Joins.pre W (g-room 𝓤 H A W E G3 5 Laws.mir (Local.room-whole 𝓤 H A W Owner·row Laws.mir refl)) (then W (t-op2 𝓤 H A W E 𝓣 G4 (lt unsigned) (oAt 3 (tyInt w64) (valS (sInt w64))) (oInt w64 64) 6 (sc-here sBool) tyBool (valS sBool) (sBool .of) (reads-sc 𝓤 H A W (sInt w64), refl) tt (room-gone 𝓤 H A tyBool) (holds-sc 𝓤 H A W sBool) refl (λ u. refl) λ u. tt) (t-seq 𝓤 H A W 𝓣 E G5 G4 b7 b22 Δ0 at7 at26 (t-cond 𝓤 H A W E 𝓣 G5 6 (λ x. x) b5 b6 Δ1 at4 at6 (reads-sc 𝓤 H A W sBool) refl (Joins.pre W (g-room 𝓤 H A W E G5 6 tyBool (room-sc 𝓤 H A W sBool)) (then W (t-enum-make-wt 𝓤 H A W E 𝓣 Spot.the-type Laws'.the-laws Laws'.the-plain tt G4 0 ((oInt w8 2) ∷ (oAt 3 (tyInt w64) (valS (sInt w64))) ∷ []) (λ m. Spot.enum .make (inr (inr (inl (m .1 .1 .1 .0, tt))))) (room-gone 𝓤 H A Laws'.mir) (tt, ((reads-sc 𝓤 H A W (sInt w64), refl), tt)) refl (λ m wa. made-val Spot.the-type Laws'.the-laws ((Laws'.the-laws .1 .1 .0 .0 .val (m .1 .1 .1 .0)) ∷ []) (Spot.enum .make (inr (inr (inl (m .1 .1 .1 .0, tt))))) (made-wt u64-field (Laws'.the-laws .1 .1 .0 .0) u64-wt (m .1 .1 .1 .0), tt) (wa .1)) λ m wa. made-is Spot.the-type Laws'.the-laws ((Laws'.the-laws .1 .1 .0 .0 .val (m .1 .1 .1 .0)) ∷ []) (Spot.enum .make (inr (inr (inl (m .1 .1 .1 .0, tt))))) (made-wt u64-field (Laws'.the-laws .1 .1 .0 .0) u64-wt (m .1 .1 .1 .0), tt) (wa .1)) (Joins.pre W (g-room 𝓤 H A W E (cx t6 ls·0) 2 (tyInt w32) (room-sc 𝓤 H A W (sInt w32))) (Joins.pre W (g-room 𝓤 H A W E (cx t7 ls·0) 3 (tyInt w64) (room-sc 𝓤 H A W (sInt w64))) (t-return 𝓤 H A W 𝓣 E Δ1 tt))))) (Joins.pre W (g-room 𝓤 H A W E G5 6 tyBool (room-sc 𝓤 H A W sBool)) (t-skip 𝓤 H A W 𝓣 E Δ1 tt))) d26)))
+          d30 = then W (t-call-plain 𝓤 H A W 𝓣 1 ps·0 r·0 (claims· .0) (claims· .1) "table::lookup::first_of" known E (λ pos β. β) G2 (record { pos = 1; ty = tyRef (named 0) imm Elem.pointed; ref = λ x. x }, (record { pos = 5; st = []; d = 0; at = λ x. x }, tt)) 3 (0 ∷ []) (Call.sub-id 𝓤 H A W (G2 .slots)) (spares-sslice 𝓤 H A W Elem.row ty·0 0, Shared.reads-sslice 𝓤 H A W Elem.row ty·0 0, refl, ((Joins.yields W Owner·row refl (cEnum Owner.the-type Laws'.the-laws Laws'.the-copy), refl), tt)) (room-gone 𝓤 H A (tyInt w64)) (tt, tt) refl) (Joins.pre W (g-room 𝓤 H A W E G3 5 Laws'.mir (Local.room-whole 𝓤 H A W Owner·row Laws'.mir refl)) (then W (t-op2 𝓤 H A W E 𝓣 G4 (lt unsigned) (oAt 3 (tyInt w64) (valS (sInt w64))) (oInt w64 64) 6 (sc-here sBool) tyBool (valS sBool) (sBool .of) (reads-sc 𝓤 H A W (sInt w64), refl) tt (room-gone 𝓤 H A tyBool) (holds-sc 𝓤 H A W sBool) refl (λ u. refl) λ u. tt) (t-seq 𝓤 H A W 𝓣 E G5 G4 b7 b22 Δ0 at7 at26 (t-cond 𝓤 H A W E 𝓣 G5 6 (λ x. x) b5 b6 Δ1 at4 at6 (reads-sc 𝓤 H A W sBool) refl (Joins.pre W (g-room 𝓤 H A W E G5 6 tyBool (room-sc 𝓤 H A W sBool)) (then W (t-enum-make-wt 𝓤 H A W E 𝓣 Spot.the-type Laws.the-laws Laws.the-plain tt G4 0 ((oInt w8 2) ∷ (oAt 3 (tyInt w64) (valS (sInt w64))) ∷ []) (λ m. Spot.enum .make (inr (inr (inl (m .1 .1 .1 .0, tt))))) (room-gone 𝓤 H A Laws.mir) (tt, ((reads-sc 𝓤 H A W (sInt w64), refl), tt)) refl (λ m wa. made-val Spot.the-type Laws.the-laws ((Laws.the-laws .1 .1 .0 .0 .val (m .1 .1 .1 .0)) ∷ []) (Spot.enum .make (inr (inr (inl (m .1 .1 .1 .0, tt))))) (made-wt u64-field (Laws.the-laws .1 .1 .0 .0) u64-wt (m .1 .1 .1 .0), tt) (wa .1)) λ m wa. made-is Spot.the-type Laws.the-laws ((Laws.the-laws .1 .1 .0 .0 .val (m .1 .1 .1 .0)) ∷ []) (Spot.enum .make (inr (inr (inl (m .1 .1 .1 .0, tt))))) (made-wt u64-field (Laws.the-laws .1 .1 .0 .0) u64-wt (m .1 .1 .1 .0), tt) (wa .1)) (Joins.pre W (g-room 𝓤 H A W E (cx t6 ls·0) 2 (tyInt w32) (room-sc 𝓤 H A W (sInt w32))) (Joins.pre W (g-room 𝓤 H A W E (cx t7 ls·0) 3 (tyInt w64) (room-sc 𝓤 H A W (sInt w64))) (t-return 𝓤 H A W 𝓣 E Δ1 tt))))) (Joins.pre W (g-room 𝓤 H A W E G5 6 tyBool (room-sc 𝓤 H A W sBool)) (t-skip 𝓤 H A W 𝓣 E Δ1 tt))) d26)))
 
           pub typed : Typed 𝓤 H A 𝓣 E (Γin 1 ps r xs m κs qs) b26 (Δret 1 ps r xs m κs qs) Φ
-          typed = then W (t-enum-make-wt 𝓤 H A W E 𝓣 Owner.the-type Laws.the-laws Laws.the-plain tt (cx t0 ls·0) 5 ((oInt w8 1) ∷ (oAt 2 (tyInt w32) (valS (sInt w32))) ∷ []) (λ m. Owner.enum .make (inr (inl (m .1 .1 .0, tt)))) (room-gone 𝓤 H A Laws.mir) (tt, ((reads-sc 𝓤 H A W (sInt w32), refl), tt)) refl (λ m wa. made-val Owner.the-type Laws.the-laws ((Laws.the-laws .1 .0 .0 .val (m .1 .1 .0)) ∷ []) (Owner.enum .make (inr (inl (m .1 .1 .0, tt)))) (made-wt u32-field (Laws.the-laws .1 .0 .0) u32-wt (m .1 .1 .0), tt) (wa .1)) λ m wa. made-is Owner.the-type Laws.the-laws ((Laws.the-laws .1 .0 .0 .val (m .1 .1 .0)) ∷ []) (Owner.enum .make (inr (inl (m .1 .1 .0, tt)))) (made-wt u32-field (Laws.the-laws .1 .0 .0) u32-wt (m .1 .1 .0), tt) (wa .1)) d30
+          typed = then W (t-enum-make-wt 𝓤 H A W E 𝓣 Owner.the-type Laws'.the-laws Laws'.the-plain tt (cx t0 ls·0) 5 ((oInt w8 1) ∷ (oAt 2 (tyInt w32) (valS (sInt w32))) ∷ []) (λ m. Owner.enum .make (inr (inl (m .1 .1 .0, tt)))) (room-gone 𝓤 H A Laws'.mir) (tt, ((reads-sc 𝓤 H A W (sInt w32), refl), tt)) refl (λ m wa. made-val Owner.the-type Laws'.the-laws ((Laws'.the-laws .1 .0 .0 .val (m .1 .1 .0)) ∷ []) (Owner.enum .make (inr (inl (m .1 .1 .0, tt)))) (made-wt u32-field (Laws'.the-laws .1 .0 .0) u32-wt (m .1 .1 .0), tt) (wa .1)) λ m wa. made-is Owner.the-type Laws'.the-laws ((Laws'.the-laws .1 .0 .0 .val (m .1 .1 .0)) ∷ []) (Owner.enum .make (inr (inl (m .1 .1 .0, tt)))) (made-wt u32-field (Laws'.the-laws .1 .0 .0) u32-wt (m .1 .1 .0), tt) (wa .1)) d30
 
       module _ (κs : Lfts 1) where
         pub record Args : Type 0 where

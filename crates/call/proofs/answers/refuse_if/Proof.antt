@@ -1,9 +1,0 @@
-use borrow.Author.Needs.{needs}
-use Rattle.call.proofs.answers.refuse_if.Statement.{statement}
-use Rattle.call.proofs.answers.refuse_if.Tie as tie
-
-pub refuse-if-spec : {M : Type 1} → statement M
-refuse-if-spec =
-    tie.close
-    (tie.spec (λ c. simp (c .if1 .taken))
-    (λ c. search needs))

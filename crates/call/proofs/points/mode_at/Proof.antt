@@ -1,9 +1,0 @@
-use borrow.Author.Needs.{needs}
-use Rattle.call.proofs.points.mode_at.Statement.{statement}
-use Rattle.call.proofs.points.mode_at.Tie as tie
-
-pub mode-at-spec : {M : Type 1} → statement M
-mode-at-spec =
-    tie.close
-    (tie.spec (search needs) (search needs)
-    (λ c. simp (c .before .place-of .ensures .0)))
