@@ -1,7 +1,7 @@
 """The surrogate of a crate, made from crates/*/src: its functions over a lent slice of one struct, with an array of integers for the struct.
 
 Rattle's borrow checker covers a lent slice of arrays and none of structs, so transplant.py lets it derive the functions of the surrogate.
-Which these are, the source tells: a function is lent where a parameter is `&[Entry]` or `&mut [Entry]`, and plain where it calls a lent one
+Which these are, the source tells: a function is lent where a parameter is `&[Slot]` or `&mut [Slot]`, and plain where it calls a lent one
 and is not lent itself; their derivations are made. In the surrogate
     a made function of the crate stands as in the source, but calls another made one, G, as G_0, so as not to wait for its proof;
     a function that these call is a stub: it has the same signature and answers any value;

@@ -1,5 +1,5 @@
 #!/usr/bin/env python3
-"""Proofs of functions over a lent slice of structs, `&[Entry]` and `&mut [Entry]`, which Rattle's borrow checker does not cover.
+"""Proofs of functions over a lent slice of structs, `&[Slot]` and `&mut [Slot]`, which Rattle's borrow checker does not cover.
 
     transplant.py CRATE::MODULE::STRUCT FOLDER     from the top of the repository; writes FOLDER/NAME/proofs/.. for each crate NAME that has such functions
 
