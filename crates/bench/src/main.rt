@@ -106,13 +106,14 @@ fn profile_of(buf: &[u8]) -> &[u8] {
 
 // Owns the table, and lends it item by item. A fresh table is sound and stays so.
 fn run(buf: &[u8], checked: bool) -> State {
+    let profile = profile_of(buf);
     let mut slots = slot::fresh();
     let mut s = start(buf);
     while 0 < s.left {
         let a = if checked {
-            feed::feed(&mut slots, item_of(buf, s), profile_of(buf))
+            feed::feed(&mut slots, item_of(buf, s), profile)
         } else {
-            feed::feed_sound(&mut slots, item_of(buf, s), profile_of(buf))
+            feed::feed_sound(&mut slots, item_of(buf, s), profile)
         };
         let next = advance(buf, s, a);
         s = next;
