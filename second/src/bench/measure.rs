@@ -1,7 +1,8 @@
 //! Measuring this program beside the proved one: the listing programs on one
-//! long input; feeding a table, item for item; and trigger checks with a long
-//! list, as they were before T-03 and as they are.
+//! long input; feeding a table, item for item; trigger checks with a long list,
+//! as they were before T-03 and as they are; and the instructions of both.
 
+use crate::bench::programs::{self, Program};
 use crate::bench::rounds::{self, Rounds};
 use crate::compare::triggers::{self, DIALLED_WITH_LONG_LIST, FROM_FRONT, LAST_FIRST, LONG_LIST};
 use crate::output;
@@ -9,15 +10,15 @@ use crate::paper::forms::write_item;
 use crate::paper::listing::frames;
 use crate::paper::table::{self, Entry, ENTRIES};
 use crate::texts;
-use std::fs::{self, File};
-use std::path::{Path, PathBuf};
-use std::process::{self, Child, Command, Stdio};
-use std::time::{Duration, Instant};
-use std::{env, io};
+use std::path::Path;
+use std::process::{self, Stdio};
+use std::time::Duration;
+use std::{env, fs, io};
 
 /// Which function is fed with: the first byte of the input of `feed-items`.
 const FEED: u8 = 0;
 const FEED_SOUND: u8 = 1;
+const FUNCTIONS: [(u8, &str); 2] = [(FEED, "feed"), (FEED_SOUND, "feed_sound")];
 /// About so many items make a round; they stay below the longest input.
 const ROUND_ITEMS: usize = 2500;
 
@@ -129,35 +130,9 @@ impl Run {
     }
 }
 
-struct Program {
-    path: PathBuf,
-    arguments: Vec<&'static str>,
-}
-
-impl Program {
-    /// How long it takes for the input, and what it says.
-    fn time(&self, input: &Path, stdout: Stdio) -> io::Result<(Duration, String)> {
-        let name = output::visible(&self.path.to_string_lossy());
-        let failed = |error: String| io::Error::other(format!("{name}: {error}"));
-        let stdin = File::open(input)?;
-        let start = Instant::now();
-        let output = Command::new(&self.path)
-            .args(&self.arguments)
-            .stdin(stdin)
-            .stdout(stdout)
-            .spawn()
-            .and_then(Child::wait_with_output)
-            .map_err(|error| failed(error.to_string()))?;
-        let time = start.elapsed();
-        if !output.status.success() {
-            return Err(failed(output.status.to_string()));
-        }
-        let said = String::from_utf8_lossy(&output.stdout);
-        Ok((time, said.trim_end().to_string()))
-    }
-}
-
 const OPEN: [u32; 3] = [1, 32, 64];
+/// Where a checkout has its programs.
+const BUILT: &str = "target/bin";
 
 /// How much is measured.
 struct Extent {
@@ -180,81 +155,111 @@ const WHOLE: Extent = Extent {
     repeats: 7,
 };
 
-/// Measures, and prints tables in Markdown.
-pub fn run(listing: &str, bench: &str, quick: bool) -> io::Result<()> {
-    try_to_start(listing)?;
-    try_to_start(bench)?;
-    let extent = if quick { QUICK } else { WHOLE };
-    let file = env::temp_dir().join(format!("second-bench-{}", process::id()));
-    let measured = measure_listings(listing, &file, &extent)
-        .and_then(|()| measure_feeding(bench, &file, &extent))
-        .and_then(|()| measure_triggers(bench, &file, &extent));
-    let removed = fs::remove_file(&file);
-    measured.and(removed)
+/// The proved programs, and a checkout whose programs are measured too.
+pub struct Paths<'a> {
+    pub listing: &'a str,
+    pub bench: &'a str,
+    pub before: Option<&'a str>,
 }
 
-/// Starts a program and ends it: that it is not there is found before anything
-/// is printed.
-fn try_to_start(path: &str) -> io::Result<()> {
-    let mut command = Command::new(path);
-    let command = command.stdin(Stdio::null()).stdout(Stdio::null());
-    let started = command.stderr(Stdio::null()).spawn();
-    let mut child = started.map_err(|error| {
-        let path = output::visible(path);
-        io::Error::other(format!("{path}: cannot be run: {error}"))
-    })?;
-    child.kill()?;
-    child.wait().map(|_| ())
+/// Measures, and prints tables in Markdown.
+pub fn run(paths: &Paths, quick: bool) -> io::Result<()> {
+    let before = |name| Some(Path::new(paths.before?).join(BUILT).join(name));
+    let listings = programs::with_task(paths.listing, before("listing"), "listing")?;
+    let feeders = programs::with_task(paths.bench, before("bench"), "feed-items")?;
+    let checkers = programs::with_task(paths.bench, None, "check-triggers")?;
+    let extent = if quick { QUICK } else { WHOLE };
+    let file = env::temp_dir().join(format!("second-bench-{}", process::id()));
+    let measured = measure_listings(&listings, &file, &extent)
+        .and_then(|()| measure_feeding(&feeders, &file, &extent))
+        .and_then(|()| measure_triggers(&checkers, &file, &extent))
+        .and_then(|()| count_instructions(&listings, &feeders, &file));
+    let removed = fs::remove_file(&file);
+    measured.and(removed)
 }
 
 fn print(line: &str) -> io::Result<()> {
     output::line(line).map_err(io::Error::other)
 }
 
-/// The proved program, and this one with the same task.
-fn pair(proved: &str, task: &'static str) -> io::Result<[Program; 2]> {
-    Ok([
-        Program {
-            path: proved.into(),
-            arguments: vec![],
-        },
-        Program {
-            path: env::current_exe()?,
-            arguments: vec![task],
-        },
-    ])
+/// What is measured of each program, and how the ratio is read.
+struct Quantity {
+    unit: &'static str,
+    ratio: &'static str,
+    good: &'static str,
+    /// Of what is measured, and of the ratio.
+    decimals: [usize; 2],
 }
 
-fn keep_best(best: &mut [Duration; 2], times: [Duration; 2]) {
+const SPEED: Quantity = Quantity {
+    unit: "items/s",
+    ratio: "SPEED",
+    good: "1.0 or more: at least as fast",
+    decimals: [0, 2],
+};
+
+const TIME: Quantity = Quantity {
+    unit: "ns/item",
+    ratio: "TIME",
+    good: "1.0 or less: at least as fast",
+    decimals: [1, 2],
+};
+
+const INSTRUCTIONS: Quantity = Quantity {
+    unit: "instructions/item",
+    ratio: "INSTRUCTIONS",
+    good: "1.0 or less: no more",
+    decimals: [1, 3],
+};
+
+impl Quantity {
+    /// Behind two columns of the table's own the proved program's, and for each
+    /// program that it is held to that one's and the ratio.
+    fn print_head(&self, [first, next]: [&str; 2], programs: &[Program]) -> io::Result<()> {
+        let (unit, ratio, good) = (self.unit, self.ratio, self.good);
+        let proved = programs[0].name;
+        let mut head = format!("| {first} | {next} | {proved}, {unit} |");
+        for Program { name, .. } in &programs[1..] {
+            head += &format!(" {name}, {unit} | {ratio} {proved}/{name} ({good}) |");
+        }
+        print(&head)?;
+        print(&format!("|---|{}", "---:|".repeat(2 * programs.len())))
+    }
+
+    fn print_row(&self, first: &str, next: u32, values: &[f64]) -> io::Result<()> {
+        let ([decimals, finer], proved) = (self.decimals, values[0]);
+        let mut row = format!("| {first} | {next} | {proved:.decimals$} |");
+        for value in &values[1..] {
+            row += &format!(" {value:.decimals$} | {:.finer$} |", proved / value);
+        }
+        print(&row)
+    }
+}
+
+fn keep_best(best: &mut [Duration], times: &[Duration]) {
     for (best, time) in best.iter_mut().zip(times) {
-        *best = time.min(*best);
+        *best = *time.min(best);
     }
 }
 
 /// Items a second: the ratio is one of speeds.
-fn measure_listings(listing: &str, file: &Path, extent: &Extent) -> io::Result<()> {
-    let [proved, second] = pair(listing, "listing")?;
-    print(
-        "| listing: open calls | items | proved, items/s | second, items/s \
-         | SPEED proved/second (1.0 or more: proved at least as fast) |",
-    )?;
-    print("|---:|---:|---:|---:|---:|")?;
+fn measure_listings(programs: &[Program], file: &Path, extent: &Extent) -> io::Result<()> {
+    SPEED.print_head(["listing: open calls", "items"], programs)?;
     for open in OPEN {
         for items in [extent.listing_items / 4, extent.listing_items] {
             let input = input(open, items).map_err(io::Error::other)?;
             let items = item_count(&input);
             fs::write(file, &input)?;
-            let mut best = [Duration::MAX; 2];
+            let mut best = vec![Duration::MAX; programs.len()];
             for _ in 0..extent.repeats {
-                let (proved_time, _) = proved.time(file, Stdio::null())?;
-                let (second_time, _) = second.time(file, Stdio::null())?;
-                keep_best(&mut best, [proved_time, second_time]);
+                for (best, program) in best.iter_mut().zip(programs) {
+                    let (time, _) = program.time(file, Stdio::null())?;
+                    *best = time.min(*best);
+                }
             }
-            let [proved, second] = best.map(|time| f64::from(items) / time.as_secs_f64());
-            let ratio = proved / second;
-            print(&format!(
-                "| {open} | {items} | {proved:.0} | {second:.0} | {ratio:.2} |"
-            ))?;
+            let speed = |time: Duration| f64::from(items) / time.as_secs_f64();
+            let speeds: Vec<f64> = best.into_iter().map(speed).collect();
+            SPEED.print_row(&open.to_string(), items, &speeds)?;
         }
     }
     Ok(())
@@ -266,29 +271,20 @@ fn item_count(input: &[u8]) -> u32 {
 }
 
 /// Nanoseconds an item: the ratio is one of times.
-fn measure_feeding(bench: &str, file: &Path, extent: &Extent) -> io::Result<()> {
-    let programs = pair(bench, "feed-items")?;
+fn measure_feeding(programs: &[Program], file: &Path, extent: &Extent) -> io::Result<()> {
     print("")?;
-    print(
-        "| function | open calls | proved, ns/item | second, ns/item \
-         | TIME proved/second (1.0 or less: proved at least as fast) |",
-    )?;
-    print("|---|---:|---:|---:|---:|")?;
-    for (function, name) in [(FEED, "feed"), (FEED_SOUND, "feed_sound")] {
+    TIME.print_head(["function", "open calls"], programs)?;
+    for (function, name) in FUNCTIONS {
         for open in OPEN {
             let round = input(open, ROUND_ITEMS).map_err(io::Error::other)?;
             let feeding = Repeated {
-                function,
+                function: Some(function),
                 name,
                 round: &round,
                 file,
             };
-            let [measured] = measure_in_turn([feeding], &programs, extent)?;
-            let [proved, second] = measured.nanoseconds;
-            let ratio = proved / second;
-            print(&format!(
-                "| {name} | {open} | {proved:.1} | {second:.1} | {ratio:.2} |"
-            ))?;
+            let [measured] = measure_in_turn([feeding], programs, extent)?;
+            TIME.print_row(name, open, &measured.nanoseconds)?;
         }
     }
     Ok(())
@@ -296,8 +292,7 @@ fn measure_feeding(bench: &str, file: &Path, extent: &Extent) -> io::Result<()> 
 
 /// Nanoseconds a trigger check, and digit pairs, with T-03's long list: the
 /// ratios are those of what was to what is.
-fn measure_triggers(bench: &str, file: &Path, extent: &Extent) -> io::Result<()> {
-    let programs = pair(bench, "check-triggers")?;
+fn measure_triggers(programs: &[Program], file: &Path, extent: &Extent) -> io::Result<()> {
     print("")?;
     print(
         "| trigger check: dialled, beside ten stored numbers of 15 digits that share 14 \
@@ -312,18 +307,42 @@ fn measure_triggers(bench: &str, file: &Path, extent: &Extent) -> io::Result<()>
     for (dialled, name) in DIALLED_WITH_LONG_LIST {
         let round = triggers::round(LONG_LIST, &[dialled]).map_err(io::Error::other)?;
         let checks = [FROM_FRONT, LAST_FIRST].map(|function| Repeated {
-            function,
+            function: Some(function),
             name,
             round: &round,
             file,
         });
-        let [before, after] = measure_in_turn(checks, &programs, extent)?;
+        let [before, after] = measure_in_turn(checks, programs, extent)?;
         let pairs = [before.pairs_per_check()?, after.pairs_per_check()?];
         let mut line = format!("| {name} |{}", ratio_cells(pairs, 0));
         for (before, after) in before.nanoseconds.into_iter().zip(after.nanoseconds) {
             line += &ratio_cells([before, after], 1);
         }
         print(&line)?;
+    }
+    Ok(())
+}
+
+/// Instructions an item, of what is timed above. Where they cannot be counted,
+/// that is said instead.
+fn count_instructions(listings: &[Program], feeders: &[Program], file: &Path) -> io::Result<()> {
+    print("")?;
+    if let Err(error) = programs::try_to_count() {
+        return print(&format!("Instructions were not counted: {error}"));
+    }
+    INSTRUCTIONS.print_head(["program or function", "open calls"], listings)?;
+    let feeding = FUNCTIONS.map(|(function, name)| (Some(function), name, feeders));
+    for (function, name, programs) in [(None, "listing", listings)].into_iter().chain(feeding) {
+        for open in OPEN {
+            let round = input(open, ROUND_ITEMS).map_err(io::Error::other)?;
+            let work = Repeated {
+                function,
+                name,
+                round: &round,
+                file,
+            };
+            INSTRUCTIONS.print_row(name, open, &work.instructions(programs)?)?;
+        }
     }
     Ok(())
 }
@@ -337,17 +356,18 @@ fn ratio_cells([before, after]: [f64; 2], decimals: usize) -> String {
 /// Whole rounds of the same items, over and over. Each round ends as it began,
 /// so the next one finds what the first has found.
 struct Repeated<'a> {
-    function: u8,
+    /// None for a listing, which gets the items themselves over and over.
+    function: Option<u8>,
     name: &'static str,
     /// A profile and items.
     round: &'a [u8],
     file: &'a Path,
 }
 
-/// What both programs took and said.
+/// What the programs took and said.
 struct Measured {
     /// For one item.
-    nanoseconds: [f64; 2],
+    nanoseconds: Vec<f64>,
     said: String,
 }
 
@@ -366,29 +386,65 @@ impl Measured {
 }
 
 impl Repeated<'_> {
-    /// How long each program takes for so many rounds, and what it says. Both
-    /// have to say the same: else they have not done the same.
-    fn time(&self, programs: &[Program; 2], rounds: u32) -> io::Result<([Duration; 2], String)> {
-        let items = rounds * item_count(self.round);
-        fs::write(self.file, rounds::write(self.function, items, self.round))?;
-        let [proved, second] = programs;
-        let (proved_time, proved_said) = proved.time(self.file, Stdio::piped())?;
-        let (second_time, second_said) = second.time(self.file, Stdio::piped())?;
-        if proved_said != second_said {
-            let (name, path) = (self.name, proved.path.display());
-            return Err(io::Error::other(format!(
-                "{name}, {items} items: what is said is not the same\n  \
-                 {path}: {proved_said}\n  second: {second_said}"
-            )));
+    /// So many rounds, as the programs read them.
+    fn input(&self, rounds: u32) -> Vec<u8> {
+        let Some(function) = self.function else {
+            let (profile, items) = self.round.split_at(frames(self.round)[0].len());
+            return [profile, &items.repeat(rounds as usize)].concat();
+        };
+        rounds::write(function, rounds * item_count(self.round), self.round)
+    }
+
+    /// What each program takes for so many rounds, and what it says. All have to
+    /// say the same: else they have not done the same.
+    fn take<T>(
+        &self,
+        programs: &[Program],
+        rounds: u32,
+        run: impl Fn(&Program, &Path) -> io::Result<(T, String)>,
+    ) -> io::Result<(Vec<T>, String)> {
+        fs::write(self.file, self.input(rounds))?;
+        let mut taken = Vec::new();
+        let mut said = Vec::new();
+        for program in programs {
+            let (took, says) = run(program, self.file)?;
+            taken.push(took);
+            said.push(says);
         }
-        Ok(([proved_time, second_time], second_said))
+        if said.iter().any(|says| *says != said[0]) {
+            let items = rounds * item_count(self.round);
+            let name = self.name;
+            let mut error = format!("{name}, {items} items: what is said is not the same");
+            for (program, says) in programs.iter().zip(&said) {
+                error += &format!("\n  {}: {says}", program.path.display());
+            }
+            return Err(io::Error::other(error));
+        }
+        Ok((taken, said.swap_remove(0)))
+    }
+
+    fn time(&self, programs: &[Program], rounds: u32) -> io::Result<(Vec<Duration>, String)> {
+        let time = |program: &Program, file: &Path| program.time(file, Stdio::piped());
+        self.take(programs, rounds, time)
+    }
+
+    /// For one item. One run is longer by two rounds, so that start-up does not
+    /// count.
+    fn instructions(&self, programs: &[Program]) -> io::Result<Vec<f64>> {
+        let (short, _) = self.take(programs, 1, Program::instructions)?;
+        let (long, _) = self.take(programs, 3, Program::instructions)?;
+        let items = f64::from(2 * item_count(self.round));
+        let counts = long.iter().zip(short);
+        Ok(counts
+            .map(|(long, short)| long.saturating_sub(short) as f64 / items)
+            .collect())
     }
 
     /// So many rounds that this program takes long enough; a multiple of four.
-    fn enough_rounds(&self, programs: &[Program; 2], extent: &Extent) -> io::Result<u32> {
+    fn enough_rounds(&self, programs: &[Program], extent: &Extent) -> io::Result<u32> {
         let long_enough = |rounds| {
-            let ([_, second_time], _) = self.time(programs, rounds)?;
-            io::Result::Ok(second_time >= extent.function_time)
+            let (times, _) = self.time(programs, rounds)?;
+            io::Result::Ok(times.last() >= Some(&extent.function_time))
         };
         let mut rounds = 4;
         // Twice, since something else may have held up a single run.
@@ -403,8 +459,8 @@ impl Repeated<'_> {
 struct Measuring<'a> {
     work: Repeated<'a>,
     long: u32,
-    long_times: [Duration; 2],
-    short_times: [Duration; 2],
+    long_times: Vec<Duration>,
+    short_times: Vec<Duration>,
     said: String,
 }
 
@@ -413,23 +469,21 @@ impl Measuring<'_> {
         self.long / 4
     }
 
-    fn repeat(&mut self, programs: &[Program; 2]) -> io::Result<()> {
+    fn repeat(&mut self, programs: &[Program]) -> io::Result<()> {
         let (times, said) = self.work.time(programs, self.long)?;
-        keep_best(&mut self.long_times, times);
+        keep_best(&mut self.long_times, &times);
         let (times, _) = self.work.time(programs, self.short())?;
-        keep_best(&mut self.short_times, times);
+        keep_best(&mut self.short_times, &times);
         self.said = said;
         Ok(())
     }
 
     fn measured(self) -> Measured {
         let items = f64::from((self.long - self.short()) * item_count(self.work.round));
-        let nanoseconds = [0, 1].map(|place| {
-            let time = self.long_times[place].saturating_sub(self.short_times[place]);
-            time.as_secs_f64() * 1e9 / items
-        });
+        let times = self.long_times.iter().zip(self.short_times);
+        let times = times.map(|(long, short)| long.saturating_sub(short));
         Measured {
-            nanoseconds,
+            nanoseconds: times.map(|time| time.as_secs_f64() * 1e9 / items).collect(),
             said: self.said,
         }
     }
@@ -439,7 +493,7 @@ impl Measuring<'_> {
 /// one of them alone.
 fn measure_in_turn<const N: usize>(
     works: [Repeated; N],
-    programs: &[Program; 2],
+    programs: &[Program],
     extent: &Extent,
 ) -> io::Result<[Measured; N]> {
     let mut measurings = Vec::new();
@@ -447,8 +501,8 @@ fn measure_in_turn<const N: usize>(
         measurings.push(Measuring {
             long: work.enough_rounds(programs, extent)?,
             work,
-            long_times: [Duration::MAX; 2],
-            short_times: [Duration::MAX; 2],
+            long_times: vec![Duration::MAX; programs.len()],
+            short_times: vec![Duration::MAX; programs.len()],
             said: String::new(),
         });
     }

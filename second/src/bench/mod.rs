@@ -1,5 +1,9 @@
-//! Measuring: this program's times beside the proved program's. What is measured
-//! is done over and over, and the input for that has a form of its own.
+//! Measuring: this program's times and instructions beside the proved program's.
+//! What is measured is done over and over, and the input for that has a form of
+//! its own.
 
 pub mod measure;
+mod programs;
 pub mod rounds;
+#[cfg(test)]
+mod tests;

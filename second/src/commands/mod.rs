@@ -78,6 +78,13 @@ const QUICK: arguments::Choice = arguments::Choice {
     does: "measures less, and takes less time for it",
 };
 
+const BEFORE: arguments::Choice = arguments::Choice {
+    name: "--before",
+    value: Some(file("DIR")),
+    does: "measures the programs of another checkout too, in turn with these: \
+        DIR/target/bin/listing and DIR/target/bin/bench, which are built already",
+};
+
 const GROUPS: [(&str, &[Command]); 7] = [
     (
         "The program of document 01",
@@ -252,10 +259,11 @@ const GROUPS: [(&str, &[Command]); 7] = [
             },
             Command {
                 name: "bench",
-                takes: &[One(LISTING), One(BENCH), Choice(QUICK)],
+                takes: &[One(LISTING), One(BENCH), Choice(BEFORE), Choice(QUICK)],
                 streams: "",
                 does: "times this program beside the proved ones: `listing` beside LISTING, \
-                    `feed-items` and `check-triggers` beside BENCH",
+                    `feed-items` and `check-triggers` beside BENCH; and counts the \
+                    instructions of both, where valgrind is on the path",
                 run: bench,
             },
         ],
@@ -363,8 +371,12 @@ fn bench_input(given: &Given) -> Result<Vec<u8>, String> {
 fn bench(given: &Given) -> Result<bool, String> {
     let [listing, bench] =
         [LISTING, BENCH].map(|argument| given.word(argument.name).unwrap_or_default());
-    let quick = given.word(QUICK.name).is_some();
-    let measured = measure::run(listing, bench, quick);
+    let paths = measure::Paths {
+        listing,
+        bench,
+        before: given.word(BEFORE.name),
+    };
+    let measured = measure::run(&paths, given.word(QUICK.name).is_some());
     measured.map(|()| true).map_err(|error| error.to_string())
 }
 
