@@ -7,18 +7,19 @@ use lib.Dec.{eqb}
 use lib.ListN.{length, replicate}
 use borrow.Author.Tests.{eqb-true}
 use Rattle.forms.specs.Bytes.{pad}
+use Rattle.forms.specs.declared.item.Leg.the-variants.{One, Two}
 use Rattle.forms.specs.declared.profile.Handling.the-variants as handling
 use Rattle.forms.proofs.ByteLaws.{and-left, and-right}
-use Rattle.call.specs.Types.{Handling, Stage, Presence, Charge, LegState, Hold, Mode, Arming, Number, Record}
+use Rattle.call.specs.Types.{Handling, Stage, Presence, Clock, LegState, Hold, Mode, Arming, Number, Record}
 use Rattle.call.specs.declared.stages.Stage.the-variants as stage
 use Rattle.call.specs.declared.record.Presence.the-variants as presence
-use Rattle.call.specs.declared.record.Charge.the-variants as charge
+use Rattle.call.specs.declared.record.Clock.the-variants as clock
 use Rattle.call.specs.declared.record.Hold.the-variants as hold
 use Rattle.call.specs.declared.armings.Mode.the-variants as mode
 use Rattle.forms.specs.Profile.{isRelease}
 use Rattle.call.specs.Roles.{isAnalysing}
 use Rattle.call.specs.Armings.{unarmed, isMode, someArmed}
-use Rattle.call.specs.Record.{leg, isPresent, isPending, isHeld, blank}
+use Rattle.call.specs.Record.{leg, charge, noCharge, isPresent, isPending, isHeld, blank, legAt}
 use Rattle.call.specs.Range.{placesInRange, isUnused, isUnarmed, isNoNumber, isBlank}
 
 -- ---- field by field
@@ -32,16 +33,26 @@ absent : (p : Presence) → not (isPresent p) ≡ true → p ≡ presence.Absent
 absent presence.Absent h = refl
 absent presence.Present h = absurd (false≢true h)
 
-no-charge : (c : Charge) → not (isPending c) ≡ true → c ≡ charge.None
-no-charge charge.None h = refl
-no-charge (charge.Waiting p) h = absurd (false≢true h)
-no-charge (charge.Running p s) h = absurd (false≢true h)
+no-clock : (k : Clock) → not (isPending k) ≡ true → k ≡ clock.None
+no-clock clock.None h = refl
+no-clock clock.Waiting h = absurd (false≢true h)
+no-clock clock.Running h = absurd (false≢true h)
 
-unused : (l : LegState) → isUnused l ≡ true → l ≡ leg presence.Absent charge.None
+unused : (l : LegState) → isUnused l ≡ true → l ≡ leg presence.Absent noCharge
 unused l h =
-    let p = absent (l .presence) (and-left (not (isPresent (l .presence))) (not (isPending (l .charge))) h) in
-    let c = no-charge (l .charge) (and-right (not (isPresent (l .presence))) (not (isPending (l .charge))) h) in
-    rw (← p, ← c)
+    let a = not (isPresent (l .presence)) in
+    let b = a && not (isPending (l .charge .clock)) in
+    let c = b && eqb (l .charge .period .0) 0 in
+    let k = and-left c (eqb (l .charge .start .0) 0) h in
+    let m = and-left b (eqb (l .charge .period .0) 0) k in
+    made (l .presence) (l .charge .clock) (l .charge .period .0) (l .charge .start .0)
+    (absent (l .presence) (and-left a (not (isPending (l .charge .clock))) m))
+    (no-clock (l .charge .clock) (and-right a (not (isPending (l .charge .clock))) m))
+    (eqb-true (l .charge .period .0) 0 (and-right b (eqb (l .charge .period .0) 0) k))
+    (eqb-true (l .charge .start .0) 0 (and-right c (eqb (l .charge .start .0) 0) h))
+  where
+    made : (p : Presence) (k : Clock) (x y : ℕ) → p ≡ presence.Absent → k ≡ clock.None → x ≡ 0 → y ≡ 0 → leg p (charge k (record { 0 = x }) (record { 0 = y })) ≡ leg presence.Absent noCharge
+    made p k x y e f g h = rw (e, f, g, h)
 
 not-held : (h : Hold) → not (isHeld h) ≡ true → h ≡ hold.None
 not-held hold.None e = refl
@@ -102,9 +113,9 @@ module _ (r : Record) (ten : length (r .armings) ≡ 10) (fifteen : length (r .n
       numbered x y l e f g = rw (e, f, g)
 
 made-blank : (s : Stage) (l m : LegState) (h : Hold) (t : ℕ) (a : List Arming) (k d : ℕ) (g : Handling) (n : Number)
-    → s ≡ stage.Analysing → l ≡ leg presence.Absent charge.None → m ≡ leg presence.Absent charge.None → h ≡ hold.None → t ≡ 0 → a ≡ replicate 10 unarmed → k ≡ 0 → d ≡ 0 → g ≡ handling.Continue
+    → s ≡ stage.Analysing → l ≡ leg presence.Absent noCharge → m ≡ leg presence.Absent noCharge → h ≡ hold.None → t ≡ 0 → a ≡ replicate 10 unarmed → k ≡ 0 → d ≡ 0 → g ≡ handling.Continue
     → n ≡ record { nature = 0; count = 0; digits = pad 15 [] }
-    → _≡_ {A = Record} (record { stage = s; leg1 = l; leg2 = m; hold = h; last = record { 0 = t }; armings = a; kept = record { 0 = k }; timer = record { 0 = d }; handling = g; number = n }) blank
+    → _≡_ {A = Record} (record { stage = s; leg1 = l .presence; clock1 = l .charge .clock; period1 = l .charge .period; start1 = l .charge .start; leg2 = m .presence; clock2 = m .charge .clock; period2 = m .charge .period; start2 = m .charge .start; hold = h; last = record { 0 = t }; armings = a; kept = record { 0 = k }; timer = record { 0 = d }; handling = g; number = n }) blank
 made-blank s l m h t a k d g n e1 e2 e3 e4 e5 e6 e7 e8 e9 e10 = rw (e1, e2, e3, e4, e5, e6, e7, e8, e9, e10)
 
 pub blank-passes : isBlank blank ≡ true
@@ -115,8 +126,8 @@ pub blank-exactly : (r : Record) → length (r .armings) ≡ 10 → length (r .n
 unfolding isBlank
 blank-exactly r ten fifteen h =
     let t0 = isAnalysing (r .stage) in
-    let t1 = t0 && isUnused (r .leg1) in
-    let t2 = t1 && isUnused (r .leg2) in
+    let t1 = t0 && isUnused (legAt One r) in
+    let t2 = t1 && isUnused (legAt Two r) in
     let t3 = t2 && not (isHeld (r .hold)) in
     let t4 = t3 && eqb (r .last .0) 0 in
     let t5 = t4 && isUnarmed (r .armings) in
@@ -130,11 +141,11 @@ blank-exactly r ten fifteen h =
     let h4 = and-left t4 (isUnarmed (r .armings)) h5 in
     let h3 = and-left t3 (eqb (r .last .0) 0) h4 in
     let h2 = and-left t2 (not (isHeld (r .hold))) h3 in
-    let h1 = and-left t1 (isUnused (r .leg2)) h2 in
-    made-blank (r .stage) (r .leg1) (r .leg2) (r .hold) (r .last .0) (r .armings) (r .kept .0) (r .timer .0) (r .handling) (r .number)
-    (analysing (r .stage) (and-left t0 (isUnused (r .leg1)) h1))
-    (unused (r .leg1) (and-right t0 (isUnused (r .leg1)) h1))
-    (unused (r .leg2) (and-right t1 (isUnused (r .leg2)) h2))
+    let h1 = and-left t1 (isUnused (legAt Two r)) h2 in
+    made-blank (r .stage) (legAt One r) (legAt Two r) (r .hold) (r .last .0) (r .armings) (r .kept .0) (r .timer .0) (r .handling) (r .number)
+    (analysing (r .stage) (and-left t0 (isUnused (legAt One r)) h1))
+    (unused (legAt One r) (and-right t0 (isUnused (legAt One r)) h1))
+    (unused (legAt Two r) (and-right t1 (isUnused (legAt Two r)) h2))
     (not-held (r .hold) (and-right t2 (not (isHeld (r .hold))) h3))
     (eqb-true (r .last .0) 0 (and-right t3 (eqb (r .last .0) 0) h4))
     (armings r ten fifteen (and-right t4 (isUnarmed (r .armings)) h5))

@@ -12,14 +12,14 @@ use borrow.Author.Tests.{eqb-true, eqb-false}
 use Rattle.forms.specs.Fields.{legNumber}
 use Rattle.forms.specs.Item.{itemInRange}
 use Rattle.forms.proofs.ByteLaws.{and-left, and-right}
-use Rattle.call.specs.Types.{Item, Tenths, Leg, PointSet, Role, Stage, Mode, Charge, LegState, Arming, Hold, Record, Relationship, ChargeReport, Answer, Stepped, Check, Kind}
+use Rattle.call.specs.Types.{Item, Tenths, Leg, PointSet, Role, Stage, Mode, Clock, Charge, LegState, Arming, Hold, Record, Relationship, ChargeReport, Answer, Stepped, Check, Kind}
 use Rattle.forms.specs.declared.item.Leg.the-variants.{One, Two}
 use Rattle.forms.specs.declared.item.Body.the-variants as body
 use Rattle.call.specs.declared.roles.Role.the-variants as role
 use Rattle.call.specs.declared.stages.Stage.the-variants.{Active}
 use Rattle.call.specs.declared.armings.Mode.the-variants as mode
 use Rattle.call.specs.declared.record.Hold.the-variants as hold
-use Rattle.call.specs.declared.record.Charge.the-variants as charge
+use Rattle.call.specs.declared.record.Clock.the-variants as clock
 use Rattle.call.specs.declared.relationship.Relationship.the-variants as relationship
 use Rattle.call.specs.declared.charging.ChargeReport.the-variants as report
 use Rattle.call.specs.declared.answers.Answer.the-variants.{Accepted, Refused}
@@ -29,8 +29,8 @@ use Rattle.forms.specs.Profile.{isRelease}
 use Rattle.call.specs.Roles.{roles, isRole, isActive, losesLeg, every}
 use Rattle.call.specs.Armings.{isMode, someArmed, unarmed, modeAt, disarmed}
 use Rattle.call.specs.Points.{isOnLeg, leaves, disarms, isPointSet}
-use Rattle.call.specs.Record.{isPresent, isPending, isStarted, isHeld, isTrigger, blank, noTimer, legAt}
-use Rattle.call.specs.Charging.{answered, granted, reportOf}
+use Rattle.call.specs.Record.{waiting, running, isPresent, isPending, isStarted, isHeld, isTrigger, blank, noTimer, legAt}
+use Rattle.call.specs.Charging.{answeredAs, answered, granted, reportAs, reportOf}
 use Rattle.call.specs.Relationship.{relationshipOf, isRelated}
 use Rattle.call.specs.Answers.{Row, isAccepted, remains, firstOf, guarded}
 use Rattle.call.specs.Events.{holdAfter, legAfter, endsCall, metRecord, met}
@@ -51,7 +51,7 @@ nothingArmed (a ∷ l) = isMode (a .mode) mode.None && nothingArmed l
 
 -- not held, nothing armed, no charge pending
 abbrev pub isIdle : Record → Bool
-isIdle r = not (isHeld (r .hold)) && nothingArmed (r .armings) && not (isPending (r .leg1 .charge)) && not (isPending (r .leg2 .charge))
+isIdle r = not (isHeld (r .hold)) && nothingArmed (r .armings) && not (isPending (r .clock1)) && not (isPending (r .clock2))
 
 -- an armed point is armed in mode 0 or in mode 1
 armed-in : (l : List Arming) → nothingArmed l ≡ (not (someArmed mode.Interrupted l) && not (someArmed mode.Notify l))
@@ -72,7 +72,7 @@ related x h = (λ e. sym (ap isRelated e) ∙ h, λ e. absurd (false≢true e))
 -- "else none": the relationship is none exactly if the call is not held, nothing is armed and no charge is pending
 pub none-exactly : (r : Record) → (relationshipOf r ≡ relationship.None) ↔ (isIdle r ≡ true)
 none-exactly r =
-    rw (armed-in (r .armings)) (go (isHeld (r .hold)) (someArmed mode.Interrupted (r .armings)) (someArmed mode.Notify (r .armings)) (isPending (r .leg1 .charge)) (isPending (r .leg2 .charge)))
+    rw (armed-in (r .armings)) (go (isHeld (r .hold)) (someArmed mode.Interrupted (r .armings)) (someArmed mode.Notify (r .armings)) (isPending (r .clock1)) (isPending (r .clock2)))
   where
     go : (held interrupted notify one two : Bool)
         → (cond (held || interrupted) relationship.Control (cond (notify || (one || two)) relationship.Monitor relationship.None) ≡ relationship.None)
@@ -86,46 +86,50 @@ none-exactly r =
 
 -- ---- charging
 
--- the period of a charge and the time in its report, 0 where there is none
-abbrev pub periodOf : Charge → ℕ
-periodOf charge.None = 0
-periodOf (charge.Waiting period) = period .0
-periodOf (charge.Running period start) = period .0
-
+-- the time in a charge's report, 0 where there is none
 abbrev pub elapsedIn : ChargeReport → ℕ
 elapsedIn report.None = 0
 elapsedIn (report.Elapsed t) = t .0
 
 -- an elapsed time never exceeds its period
-pub elapsed-within : (t : Tenths) (c : Charge) → elapsedIn (reportOf t c) ≤ periodOf c
-elapsed-within t charge.None = omega arith
-elapsed-within t (charge.Waiting period) = omega arith
-elapsed-within t (charge.Running period start) = omega arith
+pub elapsed-within : (t : Tenths) (c : Charge) → elapsedIn (reportOf t c) ≤ c .period .0
+elapsed-within t c = go (c .clock)
+  where
+    go : (k : Clock) → elapsedIn (reportAs k t c) ≤ c .period .0
+    go clock.None = omega arith
+    go clock.Waiting = omega arith
+    go clock.Running = omega arith
 
 -- nor the time since its start
-pub elapsed-since : (t period start : Tenths) → elapsedIn (reportOf t (charge.Running period start)) ≤ t .0 - start .0
+pub elapsed-since : (t period start : Tenths) → elapsedIn (reportOf t (running period start)) ≤ t .0 - start .0
 elapsed-since t period start = omega arith
 
 -- "0 if not started"
-pub elapsed-unstarted : (t : Tenths) (c : Charge) → isStarted c ≡ false → elapsedIn (reportOf t c) ≡ 0
-elapsed-unstarted t charge.None h = refl
-elapsed-unstarted t (charge.Waiting period) h = refl
-elapsed-unstarted t (charge.Running period start) h = absurd (true≢false h)
+pub elapsed-unstarted : (t : Tenths) (c : Charge) → isStarted (c .clock) ≡ false → elapsedIn (reportOf t c) ≡ 0
+elapsed-unstarted t c = go (c .clock)
+  where
+    go : (k : Clock) → isStarted k ≡ false → elapsedIn (reportAs k t c) ≡ 0
+    go clock.None h = refl
+    go clock.Waiting h = refl
+    go clock.Running h = absurd (true≢false h)
 
 -- a charge that is accepted before the Answer waits: its clock does not run
-pub granted-waits : (s : Stage) (period t : Tenths) → isActive s ≡ false → granted s period t ≡ charge.Waiting period
+pub granted-waits : (s : Stage) (period t : Tenths) → isActive s ≡ false → granted s period t ≡ waiting period
 granted-waits s period t h = rw h
 
 -- so the record that an Apply charging leaves before the Answer
-pub applied-waits : (dp : PointSet) (r : Record) (l : Leg) (period t : Tenths) → isActive (r .stage) ≡ false → legAt l (chargeApplied dp r l period t .next) .charge ≡ charge.Waiting period
+pub applied-waits : (dp : PointSet) (r : Record) (l : Leg) (period t : Tenths) → isActive (r .stage) ≡ false → legAt l (chargeApplied dp r l period t .next) .charge ≡ waiting period
 applied-waits dp r One period t h = granted-waits (r .stage) period t h
 applied-waits dp r Two period t h = granted-waits (r .stage) period t h
 
 -- "never restarts": an Answer leaves a started clock as it is
-pub answered-once : (t : Tenths) (c : Charge) → isStarted c ≡ true → answered t c ≡ c
-answered-once t charge.None h = refl
-answered-once t (charge.Waiting period) h = absurd (false≢true h)
-answered-once t (charge.Running period start) h = refl
+pub answered-once : (t : Tenths) (c : Charge) → isStarted (c .clock) ≡ true → answered t c ≡ c
+answered-once t c = go (c .clock)
+  where
+    go : (k : Clock) → isStarted k ≡ true → answeredAs k t c ≡ c
+    go clock.None h = refl
+    go clock.Waiting h = absurd (false≢true h)
+    go clock.Running h = refl
 
 -- no event but Answer starts a clock: a leg that stays keeps its charge as it was
 pub clock-kept : (dp : PointSet) (p : Role) (l : Leg) (t : Tenths) (s : LegState) → isRole p role.Answer ≡ false → leaves dp p l ≡ false → legAfter dp p l t s ≡ s
@@ -222,16 +226,19 @@ ends-exactly p mode.Notify = sym (and-true (losesLeg p))
 -- ---- an answered call (T-01)
 
 -- Answer makes no charge pending and removes none
-answered-pending : (t : Tenths) (c : Charge) → isPending (answered t c) ≡ isPending c
-answered-pending t charge.None = refl
-answered-pending t (charge.Waiting period) = refl
-answered-pending t (charge.Running period start) = refl
+answered-pending : (t : Tenths) (c : Charge) → isPending (answered t c .clock) ≡ isPending (c .clock)
+answered-pending t c = go (c .clock) refl
+  where
+    go : (k : Clock) → c .clock ≡ k → isPending (answeredAs k t c .clock) ≡ isPending k
+    go clock.None e = rw e
+    go clock.Waiting e = refl
+    go clock.Running e = rw e
 
 -- Answer is not armed in mode 0, nothing is armed that an active call can meet, no charge is pending
 abbrev pub isIdleOnceAnswered : Record → Bool
 isIdleOnceAnswered r =
     not (isMode (modeAt role.Answer (r .armings)) mode.Interrupted) && every (λ q. isPast q || isMode (modeAt q (r .armings)) mode.None) roles
-    && not (isPending (r .leg1 .charge)) && not (isPending (r .leg2 .charge))
+    && not (isPending (r .clock1)) && not (isPending (r .clock2))
 
 -- the item i is an Answer, and accepted
 module _ (dp : PointSet) (r : Record) (i : Item) (rest : List ℕ) (is-answer : i .body ≡ body.Answer) (accepted : isAccepted (respondIn dp r i rest .answer) ≡ true) where
@@ -258,7 +265,7 @@ module _ (dp : PointSet) (r : Record) (i : Item) (rest : List ℕ) (is-answer : 
   answered-armings q = rw (next-met, disarm-these (disarms dp role.Answer) q (r .armings), answer-row dp q)
 
   idle-answered : length (r .armings) ≡ 10 → isIdle next ≡ isIdleOnceAnswered r
-  idle-answered ten = rw (left, next-met, held-exactly role.Answer m, answered-pending (i .time) (r .leg1 .charge), answered-pending (i .time) (r .leg2 .charge))
+  idle-answered ten = rw (left, next-met, held-exactly role.Answer m, answered-pending (i .time) (legAt One r .charge), answered-pending (i .time) (legAt Two r .charge))
     where
       wiped : (past : Bool) (n : Mode) → isMode (cond past mode.None n) mode.None ≡ (past || isMode n mode.None)
       wiped true n = refl
@@ -285,7 +292,7 @@ module _ (dp : PointSet) (r : Record) where
   continued-remains : (s : Record) (t : Tenths) → Remains r (continued dp s t)
   unfolding continued
   continued-remains s t =
-      either (isPresent (s .leg1 .presence) && isPresent (s .leg2 .presence)) _ _
+      either (isPresent (s .leg1) && isPresent (s .leg2)) _ _
       (either (isTrigger (s .hold)) _ _ refl refl)
       refl
 

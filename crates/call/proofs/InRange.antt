@@ -16,13 +16,13 @@ use Rattle.forms.specs.Units.{isClockReading, isPeriod, isTimer, isDefaultTimer
 use Rattle.forms.specs.declared.item.Body.the-variants as body
 use Rattle.forms.specs.declared.item.Leg.the-variants.{One, Two}
 use Rattle.forms.proofs.ByteLaws.{and-left, and-right}
-use Rattle.call.specs.Types.{Body, Item, Entry, Leg, Handling, Seconds, Tenths, PointSet, Role, Named, Stage, Mode, Charge, LegState, Arming, Hold, Number, Record, Check, Stepped, Kind}
+use Rattle.call.specs.Types.{Body, Item, Entry, Leg, Handling, Seconds, Tenths, PointSet, Role, Named, Stage, Mode, Clock, Charge, LegState, Arming, Hold, Number, Record, Check, Stepped, Kind}
 use Rattle.call.specs.declared.roles.Role.the-variants as role
 use Rattle.call.specs.declared.record.Presence.the-variants.{Absent, Present}
 use Rattle.call.specs.declared.stages.Stage.the-variants.{Analysing}
 use Rattle.call.specs.declared.points.Named.the-variants.{Unknown, Known}
 use Rattle.call.specs.declared.armings.Mode.the-variants as mode
-use Rattle.call.specs.declared.record.Charge.the-variants as charge
+use Rattle.call.specs.declared.record.Clock.the-variants as clock
 use Rattle.call.specs.declared.record.Hold.the-variants as hold
 use Rattle.call.specs.declared.refusals.Check.the-variants.{Pass, Fail}
 use Rattle.call.specs.declared.kind.Kind.the-variants as kind
@@ -30,15 +30,15 @@ use Rattle.forms.specs.Profile.{isRelease}
 use Rattle.call.specs.Roles.{roles, placeOf, isRole, isAmong, every, isActive}
 use Rattle.call.specs.Armings.{isMode, modeOf, unarmed, noArmings, modeAt, disarmed}
 use Rattle.call.specs.Points.{originating, pointIn, isIn, leaves, disarms, isPointSet}
-use Rattle.call.specs.Record.{setOf, leg, isPresent, numberOf, timed, staged, withLegs, withLeg, armedAs, numbered, isHeld, isTrigger}
-use Rattle.call.specs.Charging.{answered, granted}
+use Rattle.call.specs.Record.{setOf, leg, charge, noCharge, waiting, running, isPresent, numberOf, legAt, timed, staged, withLegs, withLeg, armedAs, numbered, isHeld, isTrigger}
+use Rattle.call.specs.Charging.{answeredAs, answered, granted}
 use Rattle.call.specs.Answers.{remains, firstOf, guarded}
 use Rattle.call.specs.Trigger.{triggers}
 use Rattle.call.specs.Request.{entriesOf, named, isModeFor, isTimerFor, isGood, seenAfter, areGood, noneSeen, keptAfter, armedBy, armedWith}
 use Rattle.call.specs.Events.{holdAfter, legAfter, endsCall, metRecord, met}
 use Rattle.call.specs.Operations.{resumed, continued, connected, dropped, aborted, charged}
 use Rattle.call.specs.Kind.{kindOf}
-use Rattle.call.specs.Range.{chargeInRange, holdInRange, armingsInRange, placesInRange, numberInRange, inRangeOf, recordInRange}
+use Rattle.call.specs.Range.{chargeInRangeAs, chargeInRange, holdInRange, armingsInRange, placesInRange, numberInRange, inRangeOf, recordInRange}
 use Rattle.call.specs.Refusals.{row1, row1Time, row2, row3, row7, rowsOf}
 use Rattle.call.specs.Step.{served, respondIn, respondOf, stepOf}
 use Rattle.call.specs.Setup.{opened, begun, openAs, openOf}
@@ -62,8 +62,8 @@ each b (c ∷ l) h (suc (suc i)) = each (b && c) l h (suc i)
 -- ---- a record's tests, one by one
 
 pub record Fits (dp : PointSet) (r : Record) : Type 0 where
-  pub leg1 : chargeInRange (r .leg1 .charge) (r .last) ≡ true
-  pub leg2 : chargeInRange (r .leg2 .charge) (r .last) ≡ true
+  pub leg1 : chargeInRange (legAt One r .charge) (r .last) ≡ true
+  pub leg2 : chargeInRange (legAt Two r .charge) (r .last) ≡ true
   pub hold : holdInRange dp (r .hold) ≡ true
   pub last : isClockReading (r .last) ≡ true
   pub armings : armingsInRange dp (r .armings) ≡ true
@@ -74,7 +74,7 @@ pub record Fits (dp : PointSet) (r : Record) : Type 0 where
 pub fits : (dp : PointSet) (r : Record) → inRangeOf dp r ≡ true → Fits dp r
 unfolding inRangeOf
 fits dp r h =
-    let f = each (chargeInRange (r .leg1 .charge) (r .last)) (chargeInRange (r .leg2 .charge) (r .last) ∷ holdInRange dp (r .hold) ∷ isClockReading (r .last) ∷ armingsInRange dp (r .armings) ∷ isTimer (r .kept) ∷ isDefaultTimer (r .timer) ∷ numberInRange (r .number) ∷ []) h in
+    let f = each (chargeInRange (legAt One r .charge) (r .last)) (chargeInRange (legAt Two r .charge) (r .last) ∷ holdInRange dp (r .hold) ∷ isClockReading (r .last) ∷ armingsInRange dp (r .armings) ∷ isTimer (r .kept) ∷ isDefaultTimer (r .timer) ∷ numberInRange (r .number) ∷ []) h in
     record { leg1 = f 0; leg2 = f 1; hold = f 2; last = f 3; armings = f 4; kept = f 5; timer = f 6; number = f 7 }
 
 pub in-range : (dp : PointSet) (r : Record) → Fits dp r → inRangeOf dp r ≡ true
@@ -118,48 +118,49 @@ module _ (dp : PointSet) (r : Record) (f : Fits dp r) where
   numbered-fits n o = record { leg1 = f .leg1; leg2 = f .leg2; hold = f .hold; last = f .last; armings = f .armings; kept = f .kept; timer = f .timer; number = o }
 
   leg-fits : (l : Leg) (s : LegState) → chargeInRange (s .charge) (r .last) ≡ true → Fits dp (withLeg l r s)
-  leg-fits One s o = legs-fit s (r .leg2) o (f .leg2)
-  leg-fits Two s o = legs-fit (r .leg1) s (f .leg1) o
+  leg-fits One s o = legs-fit s (legAt Two r) o (f .leg2)
+  leg-fits Two s o = legs-fit (legAt One r) s (f .leg1) o
 
   dropped-fits : Fits dp (dropped r)
   dropped-fits = record { leg1 = refl; leg2 = refl; hold = f .hold; last = f .last; armings = none-fits dp; kept = refl; timer = f .timer; number = f .number }
 
 -- ---- charges, at a later time
 
-later : (c : Charge) (a t : Tenths) → chargeInRange c a ≡ true → a .0 ≤ t .0 → chargeInRange c t ≡ true
-later charge.None a t h le = refl
-later (charge.Waiting p) a t h le = h
-later (charge.Running p s) a t h le =
-    let k : s .0 ≤ a .0 = leb-true _ _ (and-right (isPeriod p) (leb (s .0) (a .0)) h) in
-    rw (and-left (isPeriod p) (leb (s .0) (a .0)) h, le-leb (s .0) (t .0) (omega arith))
+-- by what the clock is
+later : (k : Clock) (c : Charge) (a t : Tenths) → chargeInRangeAs k c a ≡ true → a .0 ≤ t .0 → chargeInRangeAs k c t ≡ true
+later clock.None c a t h le = h
+later clock.Waiting c a t h le = h
+later clock.Running c a t h le =
+    let since : c .start .0 ≤ a .0 = leb-true _ _ (and-right (isPeriod (c .period)) (leb (c .start .0) (a .0)) h) in
+    rw (and-left (isPeriod (c .period)) (leb (c .start .0) (a .0)) h, le-leb (c .start .0) (t .0) (omega arith))
 
-now-runs : (p t : Tenths) → isPeriod p ≡ true → chargeInRange (charge.Running p t) t ≡ true
+now-runs : (p t : Tenths) → isPeriod p ≡ true → chargeInRange (running p t) t ≡ true
 now-runs p t h = rw (h, le-leb (t .0) (t .0) (omega arith))
 
-answered-fits : (c : Charge) (a t : Tenths) → chargeInRange c a ≡ true → a .0 ≤ t .0 → chargeInRange (answered t c) t ≡ true
-answered-fits charge.None a t h le = refl
-answered-fits (charge.Waiting p) a t h le = now-runs p t h
-answered-fits (charge.Running p s) a t h le = later (charge.Running p s) a t h le
+answered-fits : (k : Clock) (c : Charge) (a t : Tenths) → c .clock ≡ k → chargeInRangeAs k c a ≡ true → a .0 ≤ t .0 → chargeInRange (answeredAs k t c) t ≡ true
+answered-fits clock.None c a t e h le = rw e h
+answered-fits clock.Waiting c a t e h le = now-runs (c .period) t (and-left (isPeriod (c .period)) (eqb (c .start .0) 0) h)
+answered-fits clock.Running c a t e h le = rw e (later clock.Running c a t h le)
 
 granted-fits : (s : Stage) (p t : Tenths) → isPeriod p ≡ true → chargeInRange (granted s p t) t ≡ true
 granted-fits s p t h = go (isActive s)
   where
-    go : (b : Bool) → chargeInRange (cond b (charge.Running p t) (charge.Waiting p)) t ≡ true
+    go : (b : Bool) → chargeInRange (cond b (running p t) (waiting p)) t ≡ true
     go true = now-runs p t h
-    go false = h
+    go false = rw h
 
 leg-after-fits : (dp : PointSet) (p : Role) (l : Leg) (s : LegState) (a t : Tenths) → chargeInRange (s .charge) a ≡ true → a .0 ≤ t .0 → chargeInRange (legAfter dp p l t s .charge) t ≡ true
 leg-after-fits dp p l s a t h le = go (leaves dp p l) (isRole p role.Answer)
   where
-    go : (b c : Bool) → chargeInRange (cond b (leg Absent charge.None) (leg (s .presence) (cond c (answered t (s .charge)) (s .charge))) .charge) t ≡ true
+    go : (b c : Bool) → chargeInRange (cond b (leg Absent noCharge) (leg (s .presence) (cond c (answered t (s .charge)) (s .charge))) .charge) t ≡ true
     go true c = refl
-    go false true = answered-fits (s .charge) a t h le
-    go false false = later (s .charge) a t h le
+    go false true = answered-fits (s .charge .clock) (s .charge) a t refl h le
+    go false false = later (s .charge .clock) (s .charge) a t h le
 
 timed-fits : (dp : PointSet) (r : Record) (t : Tenths) → Fits dp r → isClockReading t ≡ true → r .last .0 ≤ t .0 → Fits dp (timed r t)
 timed-fits dp r t f o le = record {
-  leg1 = later (r .leg1 .charge) (r .last) t (f .leg1) le;
-  leg2 = later (r .leg2 .charge) (r .last) t (f .leg2) le;
+  leg1 = later (r .clock1) (legAt One r .charge) (r .last) t (f .leg1) le;
+  leg2 = later (r .clock2) (legAt Two r .charge) (r .last) t (f .leg2) le;
   hold = f .hold;
   last = o;
   armings = f .armings;
@@ -338,8 +339,8 @@ module _ (dp : PointSet) (r : Record) (t : Tenths) (f : Fits dp r) (o : isClockR
       let m = modeAt p (r .armings) in
       either dp (endsCall p m) _ _ t refl
       (goes dp (metRecord dp r p m t) t (record {
-        leg1 = leg-after-fits dp p One (r .leg1) (r .last) t (f .leg1) le;
-        leg2 = leg-after-fits dp p Two (r .leg2) (r .last) t (f .leg2) le;
+        leg1 = leg-after-fits dp p One (legAt One r) (r .last) t (f .leg1) le;
+        leg2 = leg-after-fits dp p Two (legAt Two r) (r .last) t (f .leg2) le;
         hold = hold-fits dp p (r .armings) (f .armings);
         last = o;
         armings = disarmed-fits dp (disarms dp p) (r .armings) (f .armings);
@@ -349,15 +350,15 @@ module _ (dp : PointSet) (r : Record) (t : Tenths) (f : Fits dp r) (o : isClockR
       }) refl)
 
   charged-fits : (l : Leg) (c : Charge) → chargeInRange c t ≡ true → Fits dp (charged r l c t) × (charged r l c t .last ≡ t)
-  charged-fits One c h = (leg-fits dp (timed r t) timely One (leg (r .leg1 .presence) c) h, refl)
-  charged-fits Two c h = (leg-fits dp (timed r t) timely Two (leg (r .leg2 .presence) c) h, refl)
+  charged-fits One c h = (leg-fits dp (timed r t) timely One (leg (r .leg1) c) h, refl)
+  charged-fits Two c h = (leg-fits dp (timed r t) timely Two (leg (r .leg2) c) h, refl)
 
   continued-left : LeftWell dp t (continued dp r t)
   unfolding continued
   continued-left =
       let next = resumed r t in
       let g = staged-fits dp (timed r t) timely (r .stage) hold.None refl in
-      either dp (isPresent (r .leg1 .presence) && isPresent (r .leg2 .presence)) _ _ t
+      either dp (isPresent (r .leg1) && isPresent (r .leg2)) _ _ t
       (either dp (isTrigger (r .hold)) _ _ t
       (goes dp (armedAs next (next .armings) (record { 0 = 0 })) t (armed-fits dp next g (next .armings) (record { 0 = 0 }) (g .armings) refl) refl)
       (goes dp next t g refl)) refl
@@ -375,8 +376,8 @@ module _ (dp : PointSet) (fit : isPointSet dp ≡ true) (r : Record) (t : Tenths
   connected-fits le n h =
       let g = timed-fits dp r t f o le in
       let p = staged (timed r t) Analysing hold.None in
-      let q = withLegs p (r .leg1) (leg Present (r .leg2 .charge)) in
-      numbered-fits dp q (legs-fit dp p (staged-fits dp (timed r t) g Analysing hold.None refl) (r .leg1) (leg Present (r .leg2 .charge)) (g .leg1) (g .leg2)) n h
+      let q = withLegs p (legAt One r) (leg Present (legAt Two r .charge)) in
+      numbered-fits dp q (legs-fit dp p (staged-fits dp (timed r t) g Analysing hold.None refl) (legAt One r) (leg Present (legAt Two r .charge)) (g .leg1) (g .leg2)) n h
 
   -- the first row: the time is not before the last
   in-time : (k : Kind) → firstOf (row7 r t ∷ drop 1 (rowsOf dp r k t rest)) ≡ Pass → r .last .0 ≤ t .0
@@ -385,7 +386,7 @@ module _ (dp : PointSet) (fit : isPointSet dp ≡ true) (r : Record) (t : Tenths
   served-left : (k : Kind) → asksFit k rest ≡ true → firstOf (rowsOf dp r k t rest) ≡ Pass → LeftWell dp t (served dp r k t rest)
   served-left (kind.Setup n s w c) a h = refl
   served-left (kind.Event p) a h = met-left dp r t f o (in-time (kind.Event p) h) p
-  served-left (kind.PeriodOver l) a h = let q = charged-fits dp r t f o (in-time (kind.PeriodOver l) h) l charge.None refl in goes dp _ t (q .0) (q .1)
+  served-left (kind.PeriodOver l) a h = let q = charged-fits dp r t f o (in-time (kind.PeriodOver l) h) l noCharge refl in goes dp _ t (q .0) (q .1)
   served-left (kind.RequestReport n) a h =
       let es = entriesOf n rest in
       let good = not-false (areGood dp noneSeen es) (no-row (rowsOf dp r (kind.RequestReport n) t rest) h 2) in

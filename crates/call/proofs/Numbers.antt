@@ -80,7 +80,7 @@ either = on-cond (OneOf respondNumbers)
 
 continued-one : (dp : PointSet) (r : Record) (t : Tenths) → OneOf respondNumbers (continued dp r t)
 unfolding continued
-continued-one dp r t = either (isPresent (r .leg1 .presence) && isPresent (r .leg2 .presence)) _ _ (either (isTrigger (r .hold)) _ _ refl refl) refl
+continued-one dp r t = either (isPresent (r .leg1) && isPresent (r .leg2)) _ _ (either (isTrigger (r .hold)) _ _ refl refl) refl
 
 module _ (dp : PointSet) (r : Record) (t : Tenths) (rest : List ℕ) where
   served-one : (k : Kind) → (all (λ n. contains n respondNumbers) (numbers (rowsOf dp r k t rest)) ≡ true) × OneOf respondNumbers (served dp r k t rest)

@@ -14,14 +14,14 @@ use Rattle.forms.specs.declared.profile.Criterion.the-variants as A
 use Rattle.forms.specs.declared.item.Leg.the-variants.{One, Two}
 use Rattle.forms.specs.declared.item.Body.the-variants as B
 use Rattle.forms.specs.declared.profile.Handling.the-variants as D
-use Rattle.call.specs.Types.{Body, Criterion, Item, Handling, Leg, Role, Point, PointSet, Named, Stage, Presence, Mode, Arming, Hold, Charge, LegState, Number, Record, Report, ChargeReport, Reports, Deadline, Outcome, Answer, Stepped}
+use Rattle.call.specs.Types.{Body, Criterion, Item, Handling, Leg, Role, Point, PointSet, Named, Stage, Presence, Mode, Arming, Hold, Clock, Charge, LegState, Number, Record, Report, ChargeReport, Reports, Deadline, Outcome, Answer, Stepped}
 use Rattle.call.specs.declared.roles.Role.the-variants as P
 use Rattle.call.specs.declared.points.Named.the-variants.{Unknown, Known}
 use Rattle.call.specs.declared.stages.Stage.the-variants.{Analysing, Alerting, Active}
 use Rattle.call.specs.declared.record.Presence.the-variants.{Absent, Present}
 use Rattle.call.specs.declared.armings.Mode.the-variants as M
 use Rattle.call.specs.declared.record.Hold.the-variants as H
-use Rattle.call.specs.declared.record.Charge.the-variants.{None, Waiting, Running}
+use Rattle.call.specs.declared.record.Clock.the-variants as K
 use Rattle.call.specs.declared.answers.Report.the-variants as R
 use Rattle.call.specs.declared.charging.ChargeReport.the-variants as C
 use Rattle.call.specs.declared.answers.Deadline.the-variants as L
@@ -29,7 +29,7 @@ use Rattle.call.specs.declared.answers.Answer.the-variants.{Accepted, Re
 use Rattle.call.specs.Roles.{roles}
 use Rattle.call.specs.Armings.{modeAt, unarmed, modeOf, isMode, someArmed}
 use Rattle.call.specs.Points.{originating, pointIn, roleIn, isPointSet}
-use Rattle.call.specs.Record.{blank}
+use Rattle.call.specs.Record.{blank, legAt}
 use Rattle.call.specs.Trigger.{triggers}
 use Rattle.call.specs.Request.{entriesOf, areGood, arePossible, armedWith}
 use Rattle.call.specs.Events.{canMeet, met}
@@ -88,36 +88,51 @@ descriptions = refl
 pub modes : map modeOf (0 ∷ 1 ∷ 2 ∷ []) ≡ M.Interrupted ∷ M.Notify ∷ M.None ∷ []
 modes = refl
 
--- ---- records: a call to 49 whose last time is 1000, default timer 120, default continue, nothing kept
+-- ---- records: by the profile's defaults, and all else; then a call to 49 whose last time is 1000, default timer 120, default continue, nothing kept
 
 abbrev to : List ℕ → Number
 to digits = record { nature = 4; count = length digits; digits = pad 15 digits }
 
-abbrev with : Stage → LegState → LegState → Hold → ℕ → List Arming → ℕ → Number → Record
-with stage leg1 leg2 hold last armings kept number = record {
-  stage = stage;
-  leg1 = leg1;
-  leg2 = leg2;
-  hold = hold;
+abbrev by : ℕ → Handling → Stage → LegState → LegState → Hold → ℕ → List Arming → ℕ → Number → Record
+by timer handling stage leg1 leg2 hold last armings kept number = record {
   last = record { 0 = last };
-  armings = armings;
+  period1 = leg1 .charge .period;
+  start1 = leg1 .charge .start;
+  period2 = leg2 .charge .period;
+  start2 = leg2 .charge .start;
   kept = record { 0 = kept };
-  timer = record { 0 = 120 };
-  handling = D.Continue;
+  timer = record { 0 = timer };
+  armings = armings;
   number = number;
+  stage = stage;
+  hold = hold;
+  handling = handling;
+  leg1 = leg1 .presence;
+  leg2 = leg2 .presence;
+  clock1 = leg1 .charge .clock;
+  clock2 = leg2 .charge .clock;
 }
+
+abbrev with : Stage → LegState → LegState → Hold → ℕ → List Arming → ℕ → Number → Record
+with = by 120 D.Continue
+
+abbrev charge : Clock → ℕ → ℕ → Charge
+charge clock period start = record { clock = clock; period = record { 0 = period }; start = record { 0 = start } }
+
+abbrev uncharged : Charge
+uncharged = charge K.None 0 0
 
 abbrev present : Charge → LegState
 present c = record { presence = Present; charge = c }
 
 abbrev gone : LegState
-gone = record { presence = Absent; charge = None }
+gone = record { presence = Absent; charge = uncharged }
 
 abbrev waits : ℕ → Charge
-waits period = Waiting (record { 0 = period })
+waits period = charge K.Waiting period 0
 
 abbrev runs : ℕ → ℕ → Charge
-runs period start = Running (record { 0 = period }) (record { 0 = start })
+runs period start = charge K.Running period start
 
 -- every point in one mode; in mode 0 all but Moved, which is in mode 1
 abbrev armed : Mode → List Arming
@@ -131,7 +146,7 @@ abbrev only : ℕ → Mode → List Arming
 only place m = set (armed M.None) place (record { mode = m })
 
 abbrev at : Stage → Hold → List Arming → Record
-at stage hold armings = with stage (present None) (present None) hold 1000 armings 0 (to (4 ∷ 9 ∷ []))
+at stage hold armings = with stage (present uncharged) (present uncharged) hold 1000 armings 0 (to (4 ∷ 9 ∷ []))
 
 -- ---- a role that is no point: in a set without Route failure it has no pair, is met at no stage, and is neither held at nor armed
 
@@ -210,8 +225,8 @@ abbrev without : LegState → LegState → Stage → Body → ℕ
 without leg1 leg2 s b = refusal (item (with s leg1 leg2 H.None 1000 (armed M.None) 0 (to (4 ∷ 9 ∷ []))) b .answer)
 
 pub needs-its-leg :
-    (zipped (without gone (present None)) stages events ≡ 0 ∷ 0 ∷ 0 ∷ 0 ∷ 0 ∷ 12 ∷ 12 ∷ 12 ∷ 0 ∷ [])
-    × (zipped (without (present None) gone) stages events ≡ 12 ∷ 12 ∷ 12 ∷ 12 ∷ 12 ∷ 0 ∷ 0 ∷ 0 ∷ 12 ∷ [])
+    (zipped (without gone (present uncharged)) stages events ≡ 0 ∷ 0 ∷ 0 ∷ 0 ∷ 0 ∷ 12 ∷ 12 ∷ 12 ∷ 0 ∷ [])
+    × (zipped (without (present uncharged) gone) stages events ≡ 12 ∷ 12 ∷ 12 ∷ 12 ∷ 12 ∷ 0 ∷ 0 ∷ 0 ∷ 12 ∷ [])
 unfolding someArmed met respondIn
 needs-its-leg = (refl, refl)
 
@@ -236,7 +251,7 @@ heldAt H.Trigger = pairOf (originating .trigger) ∷ []
 heldAt (H.At p) = pairAt p ∷ []
 
 abbrev leftIn : Record → Left
-leftIn r = record { armed = armedIn (r .armings) roles; legs = legIn 1 (r .leg1 .presence) ++ legIn 2 (r .leg2 .presence); stage = r .stage; held = heldAt (r .hold) }
+leftIn r = record { armed = armedIn (r .armings) roles; legs = legIn 1 (r .leg1) ++ legIn 2 (r .leg2); stage = r .stage; held = heldAt (r .hold) }
 
 abbrev leaves : List (ℕ × ℕ) → List ℕ → Stage → List (ℕ × ℕ) → Left
 leaves armed legs stage held = record { armed = armed; legs = legs; stage = stage; held = held }
@@ -299,7 +314,7 @@ reportedIn (Refused n) = []
 reportedIn (Accepted o) = elapsed (o .reports .charge1) ∷ elapsed (o .reports .charge2) ∷ []
 
 abbrev billedIn : Stepped → Billed
-billedIn s = record { reported = reportedIn (s .answer); left = s .next .leg1 .charge ∷ s .next .leg2 .charge ∷ [] }
+billedIn s = record { reported = reportedIn (s .answer); left = legAt One (s .next) .charge ∷ legAt Two (s .next) .charge ∷ [] }
 
 abbrev bills : Option ℕ → Option ℕ → Charge → Charge → Billed
 bills one two c d = record { reported = one ∷ two ∷ []; left = c ∷ d ∷ [] }
@@ -310,29 +325,29 @@ charging a s = with s (present (runs 600 900)) (present (waits 600)) H.None 1000
 -- held: "when the leg becomes absent"; "its clock starts at the first Answer …, and never restarts"; over: "when the call is over"
 pub charges-held :
     zipped (λ (s : Stage) (b : Body). billedIn (item (charging interrupting s) b)) stages events
-    ≡ bills none (some 0) (runs 600 900) None
-    ∷ bills none (some 0) (runs 600 900) None
-    ∷ bills none (some 0) (runs 600 900) None
+    ≡ bills none (some 0) (runs 600 900) uncharged
+    ∷ bills none (some 0) (runs 600 900) uncharged
+    ∷ bills none (some 0) (runs 600 900) uncharged
     ∷ bills none none (runs 600 900) (waits 600)
     ∷ bills none none (runs 600 900) (runs 600 1000)
     ∷ bills none none (runs 600 900) (waits 600)
     ∷ bills none none (runs 600 900) (waits 600)
-    ∷ bills (some 100) none None (waits 600)
-    ∷ bills none (some 0) (runs 600 900) None
+    ∷ bills (some 100) none uncharged (waits 600)
+    ∷ bills none (some 0) (runs 600 900) uncharged
     ∷ []
 unfolding someArmed met respondIn
 charges-held = refl
 
 pub charges-over :
     map (λ (b : Body). billedIn (item (charging (armed M.Notify) Active) b)) (B.Clear One 16 ∷ B.Clear Two 16 ∷ [])
-    ≡ bills (some 100) (some 0) None None ∷ bills (some 100) (some 0) None None ∷ []
+    ≡ bills (some 100) (some 0) uncharged uncharged ∷ bills (some 100) (some 0) uncharged uncharged ∷ []
 unfolding someArmed met respondIn
 charges-over = refl
 
 -- ---- "Elapsed = smaller of (time − start) and period": leg 1's charge at 900 (its start), 1499, 1500 and 1501, as a Clear of leg 1 reports it; period 600
 
 pub elapsed-edges :
-    map (λ (t : ℕ). reportedIn (asked t (with Active (present (runs 600 900)) (present None) H.None 900 (armed M.None) 0 (to (4 ∷ 9 ∷ []))) (B.Clear One 16) [] .answer)) (900 ∷ 901 ∷ 1499 ∷ 1500 ∷ 1501 ∷ [])
+    map (λ (t : ℕ). reportedIn (asked t (with Active (present (runs 600 900)) (present uncharged) H.None 900 (armed M.None) 0 (to (4 ∷ 9 ∷ []))) (B.Clear One 16) [] .answer)) (900 ∷ 901 ∷ 1499 ∷ 1500 ∷ 1501 ∷ [])
     ≡ (some 0 ∷ none ∷ []) ∷ (some 1 ∷ none ∷ []) ∷ (some 599 ∷ none ∷ []) ∷ (some 600 ∷ none ∷ []) ∷ (some 600 ∷ none ∷ []) ∷ []
 unfolding someArmed met respondIn
 elapsed-edges = refl
@@ -349,8 +364,8 @@ requested r es = refusal (asked 1000 r (B.RequestReport (length es)) (flatten es
 abbrev calls : List Record
 calls =
     at Analysing H.Trigger (armed M.None) ∷ at Alerting (H.At P.Seized) (armed M.None) ∷ at Active (H.At P.Answer) (armed M.None)
-    ∷ with Active (present None) gone (H.At P.Disconnect2) 1000 (armed M.None) 0 (to (4 ∷ 9 ∷ []))
-    ∷ with Analysing gone (present None) (H.At P.Abandon) 1000 (armed M.None) 0 (to (4 ∷ 9 ∷ []))
+    ∷ with Active (present uncharged) gone (H.At P.Disconnect2) 1000 (armed M.None) 0 (to (4 ∷ 9 ∷ []))
+    ∷ with Analysing gone (present uncharged) (H.At P.Abandon) 1000 (armed M.None) 0 (to (4 ∷ 9 ∷ []))
     ∷ []
 
 abbrev armedAs : ℕ → ℕ → ℕ × ℕ → List ℕ
@@ -422,12 +437,12 @@ pub refusals :
     -- no relationship, in analysing
     × (asks 1000 (at Analysing H.None (armed M.None)) ≡ 5 ∷ 0 ∷ 0 ∷ 0 ∷ 0 ∷ 0 ∷ 12 ∷ 12 ∷ 0 ∷ 12 ∷ 12 ∷ 12 ∷ 8 ∷ 8 ∷ 8 ∷ 8 ∷ 8 ∷ 8 ∷ 8 ∷ 8 ∷ [])
     -- monitor, by 9 of leg 2 in mode 1; active; a charge of leg 2 whose period is over now
-    × (asks 1000 (with Active (present None) (present (runs 100 900)) H.None 1000 (only 8 M.Notify) 0 (to (4 ∷ 9 ∷ [])))
+    × (asks 1000 (with Active (present uncharged) (present (runs 100 900)) H.None 1000 (only 8 M.Notify) 0 (to (4 ∷ 9 ∷ [])))
     ≡ 5 ∷ 12 ∷ 12 ∷ 12 ∷ 12 ∷ 12 ∷ 0 ∷ 0 ∷ 0 ∷ 0 ∷ 12 ∷ 0 ∷ 8 ∷ 8 ∷ 8 ∷ 8 ∷ 8 ∷ 8 ∷ 0 ∷ 0 ∷ [])
     -- monitor, by a charge of leg 1 alone, and by one of leg 2 alone, whose clocks wait; alerting
-    × (asks 1000 (with Alerting (present (waits 100)) (present None) H.None 1000 (armed M.None) 0 (to (4 ∷ 9 ∷ [])))
+    × (asks 1000 (with Alerting (present (waits 100)) (present uncharged) H.None 1000 (armed M.None) 0 (to (4 ∷ 9 ∷ [])))
     ≡ 5 ∷ 12 ∷ 0 ∷ 0 ∷ 12 ∷ 0 ∷ 12 ∷ 0 ∷ 0 ∷ 12 ∷ 12 ∷ 12 ∷ 8 ∷ 8 ∷ 8 ∷ 8 ∷ 8 ∷ 8 ∷ 0 ∷ 0 ∷ [])
-    × (asks 1000 (with Alerting (present None) (present (waits 100)) H.None 1000 (armed M.None) 0 (to (4 ∷ 9 ∷ [])))
+    × (asks 1000 (with Alerting (present uncharged) (present (waits 100)) H.None 1000 (armed M.None) 0 (to (4 ∷ 9 ∷ [])))
     ≡ 5 ∷ 12 ∷ 0 ∷ 0 ∷ 12 ∷ 0 ∷ 12 ∷ 0 ∷ 0 ∷ 12 ∷ 12 ∷ 12 ∷ 8 ∷ 8 ∷ 8 ∷ 8 ∷ 8 ∷ 8 ∷ 0 ∷ 0 ∷ [])
     -- control, by 7 in mode 0, not held; alerting; a charge of leg 1 whose period is not over yet, one of leg 2 that waits
     × (asks 1000 (with Alerting (present (runs 100 901)) (present (waits 100)) H.None 1000 (only 7 M.Interrupted) 0 (to (4 ∷ 9 ∷ [])))
@@ -436,9 +451,9 @@ pub refusals :
     × (asks 1000 (at Analysing H.Trigger (armed M.None)) ≡ 5 ∷ 9 ∷ 9 ∷ 9 ∷ 9 ∷ 9 ∷ 9 ∷ 9 ∷ 0 ∷ 9 ∷ 12 ∷ 12 ∷ replicate 8 0)
     × (asks 1000 (at Active (H.At P.Answer) (armed M.None)) ≡ 5 ∷ 9 ∷ 9 ∷ 9 ∷ 9 ∷ 9 ∷ 9 ∷ 9 ∷ 0 ∷ 9 ∷ 12 ∷ 12 ∷ 0 ∷ 0 ∷ 12 ∷ replicate 5 0)
     -- held at 5, leg 2 absent; held at 10, leg 1 absent
-    × (asks 1000 (with Analysing (present None) gone (H.At P.Busy) 1000 (armed M.None) 0 (to (4 ∷ 9 ∷ [])))
+    × (asks 1000 (with Analysing (present uncharged) gone (H.At P.Busy) 1000 (armed M.None) 0 (to (4 ∷ 9 ∷ [])))
     ≡ 5 ∷ 9 ∷ 9 ∷ 9 ∷ 9 ∷ 9 ∷ 9 ∷ 9 ∷ 0 ∷ 9 ∷ 12 ∷ 12 ∷ 0 ∷ 0 ∷ 0 ∷ 0 ∷ 0 ∷ 12 ∷ 0 ∷ 0 ∷ [])
-    × (asks 1000 (with Analysing gone (present None) (H.At P.Abandon) 1000 (armed M.None) 0 (to (4 ∷ 9 ∷ [])))
+    × (asks 1000 (with Analysing gone (present uncharged) (H.At P.Abandon) 1000 (armed M.None) 0 (to (4 ∷ 9 ∷ [])))
     ≡ 5 ∷ 9 ∷ 9 ∷ 9 ∷ 9 ∷ 9 ∷ 9 ∷ 9 ∷ 12 ∷ 9 ∷ 12 ∷ 12 ∷ 12 ∷ 0 ∷ 12 ∷ 0 ∷ 12 ∷ 12 ∷ 0 ∷ 0 ∷ [])
     -- held at 9 of leg 1, both legs absent
     × (asks 1000 (with Active gone gone (H.At P.Disconnect1) 1000 (armed M.None) 0 (to (4 ∷ 9 ∷ [])))
@@ -497,17 +512,17 @@ pub operations-leave :
     ≡ (none, with Analysing (present (waits 600)) (present (waits 700)) H.Trigger 1010 (set (set armings 6 (record { mode = M.Notify })) 2 (record { mode = M.Interrupted })) 40 (to (4 ∷ 9 ∷ [])))
     ∷ (none, with Analysing (present (waits 600)) (present (waits 700)) H.Trigger 1010 (only 6 M.Interrupted) 30 (to (4 ∷ 9 ∷ [])))
     ∷ (some 1310, with Analysing (present (waits 600)) (present (waits 700)) H.None 1010 armings 0 (to (4 ∷ 9 ∷ [])))
-    ∷ (none, with Active (present None) (present None) H.None 1010 armings 0 (to (4 ∷ 9 ∷ [])))
+    ∷ (none, with Active (present uncharged) (present uncharged) H.None 1010 armings 0 (to (4 ∷ 9 ∷ [])))
     ∷ (some 1310, with Analysing (present (waits 600)) (present (waits 700)) H.None 1010 armings 0 (record { nature = 3; count = 1; digits = pad 15 (6 ∷ []) }))
-    ∷ (some 1310, with Analysing (present (runs 600 900)) (present None) H.None 1010 armings 0 (record { nature = 3; count = 1; digits = pad 15 (6 ∷ []) }))
+    ∷ (some 1310, with Analysing (present (runs 600 900)) (present uncharged) H.None 1010 armings 0 (record { nature = 3; count = 1; digits = pad 15 (6 ∷ []) }))
     ∷ (none, blank)
     ∷ (none, blank)
     ∷ (none, with Analysing (present (waits 600)) (present (waits 700)) H.Trigger 1010 armings 30 (to (4 ∷ 9 ∷ [])))
-    ∷ (some 2210, with Analysing (present None) (present None) H.None 1010 (armed M.None) 0 (to (4 ∷ 9 ∷ [])))
-    ∷ (none, with Active (present None) (present None) H.None 1010 (armed M.None) 0 (to (4 ∷ 9 ∷ [])))
-    ∷ (none, with Alerting (present (waits 600)) (present None) (H.At P.Seized) 1010 armings 0 (to (4 ∷ 9 ∷ [])))
-    ∷ (none, with Active (present None) (present (runs 700 1010)) (H.At P.Answer) 1010 armings 0 (to (4 ∷ 9 ∷ [])))
-    ∷ (none, with Active (present None) gone (H.At P.Disconnect2) 1500 armings 30 (to (4 ∷ 9 ∷ [])))
+    ∷ (some 2210, with Analysing (present uncharged) (present uncharged) H.None 1010 (armed M.None) 0 (to (4 ∷ 9 ∷ [])))
+    ∷ (none, with Active (present uncharged) (present uncharged) H.None 1010 (armed M.None) 0 (to (4 ∷ 9 ∷ [])))
+    ∷ (none, with Alerting (present (waits 600)) (present uncharged) (H.At P.Seized) 1010 armings 0 (to (4 ∷ 9 ∷ [])))
+    ∷ (none, with Active (present uncharged) (present (runs 700 1010)) (H.At P.Answer) 1010 armings 0 (to (4 ∷ 9 ∷ [])))
+    ∷ (none, with Active (present uncharged) gone (H.At P.Disconnect2) 1500 armings 30 (to (4 ∷ 9 ∷ [])))
     ∷ []
 unfolding entryOf entriesOf areGood arePossible armedWith someArmed continued aborted respondIn
 operations-leave = refl
@@ -518,30 +533,31 @@ abbrev ranged : Charge → Charge → Hold → ℕ → List Arming → ℕ → N
 ranged c d hold last armings kept number = with Active (present c) (present d) hold last armings kept number
 
 abbrev timed : ℕ → Record
-timed n = let r = at Active H.None (armed M.None) in
-    record { stage = r .stage; leg1 = r .leg1; leg2 = r .leg2; hold = r .hold; last = r .last; armings = r .armings; kept = r .kept; timer = record { 0 = n }; handling = D.Release; number = r .number }
+timed n = by n D.Release Active (present uncharged) (present uncharged) H.None 1000 (armed M.None) 0 (to (4 ∷ 9 ∷ []))
 
 abbrev numbered : ℕ → ℕ → List ℕ → Record
-numbered nature count digits = ranged None None H.None 1000 (armed M.None) 0 (record { nature = nature; count = count; digits = pad 15 digits })
+numbered nature count digits = ranged uncharged uncharged H.None 1000 (armed M.None) 0 (record { nature = nature; count = count; digits = pad 15 digits })
 
 abbrev charged : Charge → List Record
-charged c = ranged c None H.None 1000 (armed M.None) 0 (to (4 ∷ 9 ∷ [])) ∷ ranged None c H.None 1000 (armed M.None) 0 (to (4 ∷ 9 ∷ [])) ∷ []
+charged c = ranged c uncharged H.None 1000 (armed M.None) 0 (to (4 ∷ 9 ∷ [])) ∷ ranged uncharged c H.None 1000 (armed M.None) 0 (to (4 ∷ 9 ∷ [])) ∷ []
 
 abbrev fits : List Record
 fits =
     -- "hold none, 2 or an armable point with its leg, 50 excepted"; "times below 2^48"; "kept timer 0..2047"; "an arming none, 0 or 1 (50 never 0)"
     map (λ (h : Hold). at Active h (armed M.None))
     (H.None ∷ H.Trigger ∷ H.At P.MidCall ∷ H.At P.Disconnect1 ∷ H.At P.Abandon ∷ H.At P.RouteFailure ∷ H.At P.Busy ∷ H.At P.NoAnswer ∷ H.At P.Answer ∷ H.At P.Disconnect2 ∷ H.At P.Seized ∷ [])
-    ++ (ranged None None H.None 281474976710655 interrupting 2047 (to (4 ∷ 9 ∷ [])) ∷ at Active H.None (armed M.Notify) ∷ timed 10 ∷ timed 180 ∷ [])
+    ++ (ranged uncharged uncharged H.None 281474976710655 interrupting 2047 (to (4 ∷ 9 ∷ [])) ∷ at Active H.None (armed M.Notify) ∷ timed 10 ∷ timed 180 ∷ [])
     -- a period and a start; the called number
     ++ charged (waits 1) ++ charged (waits 864000) ++ charged (runs 864000 1000)
     ++ (numbered 0 1 (14 ∷ []) ∷ numbered 127 15 (replicate 15 14) ∷ [])
 
 abbrev unfit : List Record
 unfit =
-    at Active (H.At P.Moved) (armed M.None) ∷ ranged None None H.None 281474976710656 interrupting 0 (to (4 ∷ 9 ∷ [])) ∷ ranged None None H.None 1000 (armed M.None) 2048 (to (4 ∷ 9 ∷ []))
+    at Active (H.At P.Moved) (armed M.None) ∷ ranged uncharged uncharged H.None 281474976710656 interrupting 0 (to (4 ∷ 9 ∷ [])) ∷ ranged uncharged uncharged H.None 1000 (armed M.None) 2048 (to (4 ∷ 9 ∷ []))
     ∷ at Active H.None (armed M.Interrupted) ∷ timed 9 ∷ timed 181
-    ∷ charged (waits 0) ++ charged (waits 864001) ++ charged (runs 0 1000) ++ charged (runs 864001 1000) ++ charged (runs 600 1001)
+    -- a period or a start of no charge, a start of one that waits
+    ∷ charged (charge K.None 1 0) ++ charged (charge K.None 0 1) ++ charged (charge K.Waiting 600 1)
+    ++ charged (waits 0) ++ charged (waits 864001) ++ charged (runs 0 1000) ++ charged (runs 864001 1000) ++ charged (runs 600 1001)
     -- nature 128, no digits, 16 digits, digit 15; "digit places past the called number's count zero": the first past it, and the last
     ++ (numbered 128 1 (4 ∷ []) ∷ numbered 4 0 [] ∷ numbered 4 16 (replicate 15 4) ∷ numbered 4 1 (15 ∷ []) ∷ numbered 4 1 (4 ∷ 9 ∷ []) ∷ numbered 4 14 (replicate 15 1) ∷ [])
 
@@ -600,18 +616,7 @@ abbrev only8 : List ℕ
 only8 = 0 ∷ 11 ∷ 1 ∷ 1 ∷ 30 ∷ 0 ∷ 0 ∷ 0 ∷ 1 ∷ 8 ∷ 0 ∷ []
 
 abbrev begins : Hold → Record
-begins hold = record {
-  stage = Analysing;
-  leg1 = present None;
-  leg2 = present None;
-  hold = hold;
-  last = record { 0 = 1000 };
-  armings = armed M.None;
-  kept = record { 0 = 0 };
-  timer = record { 0 = 30 };
-  handling = D.Release;
-  number = to (4 ∷ 9 ∷ []);
-}
+begins hold = by 30 D.Release Analysing (present uncharged) (present uncharged) hold 1000 (armed M.None) 0 (to (4 ∷ 9 ∷ []))
 
 -- "stage analysing, both legs, held as Triggering says, last time the item's, nothing armed, no charge, no kept timer, the profile's defaults, the Setup's number"; "the call is held at point 2 and an interrupting report for 2, leg 1, goes out"
 abbrev setup : List ℕ → Said × Option ℕ × Record

@@ -6,6 +6,7 @@ use mathlib.Core.List.{List, [], _∷_}
 use mathlib.Core.Option.{Option, none, some}
 use Rattle.forms.specs.Fields.{legNumber}
 use Rattle.call.specs.Types.{Tenths, Point, PointSet, Hold, Record, Relationship, Suspension, Report, ChargeReport, Reports, Deadline, Outcome, Answer, Check, Stepped}
+use Rattle.forms.specs.declared.item.Leg.the-variants.{One, Two}
 use Rattle.call.specs.declared.record.Hold.the-variants as hold
 use Rattle.call.specs.declared.relationship.Relationship.the-variants as relationship
 use Rattle.call.specs.declared.charging.ChargeReport.the-variants as due
@@ -17,7 +18,7 @@ use Rattle.call.specs.declared.refusals.Check.the-variants.{Pass, Fail}
 use Rattle.call.specs.Points.{pointIn}
 use Rattle.call.specs.Charging.{reportOf}
 use Rattle.call.specs.Relationship.{relationshipOf}
-use Rattle.call.specs.Record.{blank}
+use Rattle.call.specs.Record.{blank, legAt}
 
 -- ---- the values of an answer: this paper's numbers and words for each of its cases. (No two answers have the same: proofs/AnswerTheorems.antt.)
 
@@ -113,7 +114,7 @@ quietly dp next = goesOn dp next silent deadline.None
 -- the call is over at t, with r the record before: "everything disarmed, slot freed", pending charges reported
 abbrev pub ended : Record → Report → Tenths → Stepped
 ended r event t = record {
-  answer = Accepted (record { relationship = relationship.None; suspension = suspension.None; reports = reports event (reportOf t (r .leg1 .charge)) (reportOf t (r .leg2 .charge)); deadline = deadline.None; over = true });
+  answer = Accepted (record { relationship = relationship.None; suspension = suspension.None; reports = reports event (reportOf t (legAt One r .charge)) (reportOf t (legAt Two r .charge)); deadline = deadline.None; over = true });
   next = blank;
 }
 

@@ -6,7 +6,6 @@ use Rattle.call.specs.declared.roles.Role.the-variants.{Disconnect1, Aba
 use Rattle.call.specs.declared.armings.Mode.the-variants as mode
 use Rattle.call.specs.declared.record.Hold.the-variants as hold
 use Rattle.call.specs.declared.record.Presence.the-variants.{Absent}
-use Rattle.call.specs.declared.record.Charge.the-variants as charge
 use Rattle.call.specs.declared.answers.Report.the-variants as report
 use Rattle.call.specs.declared.charging.ChargeReport.the-variants as due
 use Rattle.call.specs.declared.answers.Deadline.the-variants as deadline
@@ -14,7 +13,7 @@ use Rattle.call.specs.Roles.{isRole, metIn, losesLeg, stageAfter}
 use Rattle.call.specs.Armings.{modeAt, disarmed}
 use Rattle.call.specs.Points.{pointIn, isIn, leaves, disarms}
 use Rattle.call.specs.Charging.{answered, reportOf}
-use Rattle.call.specs.Record.{leg, isPresent, made, legAt}
+use Rattle.call.specs.Record.{leg, noCharge, isPresent, made, legAt}
 use Rattle.call.specs.Answers.{reports, goesOn, ended}
 
 abbrev pub isClearOf1 : Role → Bool
@@ -46,7 +45,7 @@ module _ (dp : PointSet) where
   -- a leg that becomes absent keeps no charge; Answer starts the clocks that wait
   abbrev pub legAfter : Role → Leg → Tenths → LegState → LegState
   legAfter p l t s =
-      cond (leaves dp p l) (leg Absent charge.None) (leg (s .presence) (cond (isRole p Answer) (answered t (s .charge)) (s .charge)))
+      cond (leaves dp p l) (leg Absent noCharge) (leg (s .presence) (cond (isRole p Answer) (answered t (s .charge)) (s .charge)))
 
   -- a charge "is reported and removed … when the leg becomes absent"
   abbrev pub chargeAfter : Role → Leg → Tenths → LegState → ChargeReport
@@ -55,13 +54,13 @@ module _ (dp : PointSet) where
   -- "then disarm, whether or not it was armed"
   abbrev pub metRecord : Record → Role → Mode → Tenths → Record
   metRecord r p m t =
-      made r (stageAfter p (r .stage)) (legAfter p One t (r .leg1)) (legAfter p Two t (r .leg2)) (holdAfter p m) t
+      made r (stageAfter p (r .stage)) (legAfter p One t (legAt One r)) (legAfter p Two t (legAt Two r)) (holdAfter p m) t
       (disarmed (disarms dp p) (r .armings)) (r .kept) (r .number)
 
   abbrev pub meetsIn : Record → Role → Mode → Tenths → Stepped
   meetsIn r p m t =
       cond (endsCall p m) (ended r (eventReport p m) t)
-      (goesOn dp (metRecord r p m t) (reports (eventReport p m) (chargeAfter p One t (r .leg1)) (chargeAfter p Two t (r .leg2))) deadline.None)
+      (goesOn dp (metRecord r p m t) (reports (eventReport p m) (chargeAfter p One t (legAt One r)) (chargeAfter p Two t (legAt Two r))) deadline.None)
 
   unfoldable pub met : Record → Role → Tenths → Stepped
   met r p t = meetsIn r p (modeAt p (r .armings)) t

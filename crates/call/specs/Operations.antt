@@ -7,7 +7,6 @@ use Rattle.forms.specs.Units.{tenthsOf}
 use Rattle.call.specs.Types.{Leg, Tenths, Seconds, PointSet, Charge, LegState, Number, Record, ChargeReport, Reports, Deadline, Stepped}
 use Rattle.forms.specs.declared.item.Leg.the-variants.{One, Two}
 use Rattle.call.specs.declared.record.Presence.the-variants.{Present}
-use Rattle.call.specs.declared.record.Charge.the-variants as charge
 use Rattle.call.specs.declared.stages.Stage.the-variants.{Analysing}
 use Rattle.call.specs.declared.record.Hold.the-variants as hold
 use Rattle.call.specs.declared.answers.Report.the-variants as report
@@ -15,7 +14,7 @@ use Rattle.call.specs.declared.charging.ChargeReport.the-variants as due
 use Rattle.call.specs.declared.answers.Deadline.the-variants as deadline
 use Rattle.call.specs.Armings.{noArmings}
 use Rattle.call.specs.Charging.{granted, reportOf}
-use Rattle.call.specs.Record.{leg, isPresent, isHeld, isTrigger, noTimer, timed, staged, withLegs, legAt, withLeg, armedAs, numbered}
+use Rattle.call.specs.Record.{leg, noCharge, isPresent, isHeld, isTrigger, noTimer, timed, staged, withLegs, legAt, withLeg, armedAs, numbered}
 use Rattle.call.specs.Answers.{reports, silent, goesOn, quietly, ended}
 
 -- ---- routing: "deadline = time + kept timer × 10, used once (002), else the profile's default × 10" (TNRy)
@@ -36,7 +35,7 @@ resumed r t = staged (timed r t) (r .stage) hold.None
 
 unfoldable pub continued : PointSet → Record → Tenths → Stepped
 continued dp r t =
-    cond (isPresent (r .leg1 .presence) && isPresent (r .leg2 .presence))
+    cond (isPresent (r .leg1) && isPresent (r .leg2))
     (cond (isTrigger (r .hold)) (routed dp (resumed r t) t) (quietly dp (resumed r t)))
     (ended r report.None t)
 
@@ -44,18 +43,18 @@ continued dp r t =
 
 -- "held at 2, or leg 2 absent with leg 1 present"
 abbrev pub canConnect : Record → Bool
-canConnect r = isTrigger (r .hold) || (isPresent (r .leg1 .presence) && not (isPresent (r .leg2 .presence)))
+canConnect r = isTrigger (r .hold) || (isPresent (r .leg1) && not (isPresent (r .leg2)))
 
 abbrev pub connected : Record → Number → Tenths → Record
-connected r n t = numbered (withLegs (staged (timed r t) Analysing hold.None) (r .leg1) (leg Present (r .leg2 .charge))) n
+connected r n t = numbered (withLegs (staged (timed r t) Analysing hold.None) (legAt One r) (leg Present (legAt Two r .charge))) n
 
 -- ---- "Abort: all armings, charges and the kept timer dropped unreported; default release: over; else as Continue if held"
 
 abbrev pub uncharged : LegState → LegState
-uncharged l = leg (l .presence) charge.None
+uncharged l = leg (l .presence) noCharge
 
 abbrev pub dropped : Record → Record
-dropped r = armedAs (withLegs r (uncharged (r .leg1)) (uncharged (r .leg2))) noArmings noTimer
+dropped r = armedAs (withLegs r (uncharged (legAt One r)) (uncharged (legAt Two r))) noArmings noTimer
 
 unfoldable pub aborted : PointSet → Record → Tenths → Stepped
 aborted dp r t =
@@ -74,7 +73,7 @@ reportOn Two c = reports report.None due.None c
 
 -- "reported and removed when Period over is accepted"
 abbrev pub periodOver : PointSet → Record → Leg → Tenths → Stepped
-periodOver dp r l t = goesOn dp (charged r l charge.None t) (reportOn l (reportOf t (legAt l r .charge))) deadline.None
+periodOver dp r l t = goesOn dp (charged r l noCharge t) (reportOn l (reportOf t (legAt l r .charge))) deadline.None
 
 abbrev pub chargeApplied : PointSet → Record → Leg → Tenths → Tenths → Stepped
 chargeApplied dp r l period t = quietly dp (charged r l (granted (r .stage) period t) t)

@@ -6,21 +6,25 @@ use lib.Dec.{leb, eqb}
 use Rattle.forms.specs.Fields.{nature, digitCount, isDigit}
 use Rattle.forms.specs.Units.{isClockReading, isPeriod, isTimer, isDefaultTimer}
 use Rattle.forms.specs.Profile.{isRelease}
-use Rattle.call.specs.Types.{Tenths, PointSet, Role, Charge, LegState, Arming, Hold, Number, Record}
+use Rattle.call.specs.Types.{Tenths, PointSet, Role, Clock, Charge, LegState, Arming, Hold, Number, Record}
 use Rattle.call.specs.declared.roles.Role.the-variants.{Moved}
-use Rattle.call.specs.declared.record.Charge.the-variants as charge
+use Rattle.call.specs.declared.record.Clock.the-variants as clock
+use Rattle.forms.specs.declared.item.Leg.the-variants.{One, Two}
 use Rattle.call.specs.declared.armings.Mode.the-variants as mode
 use Rattle.call.specs.declared.record.Hold.the-variants as hold
 use Rattle.call.specs.Roles.{isAnalysing, roles, isRole, every}
 use Rattle.call.specs.Armings.{isMode, someArmed, modeAt}
 use Rattle.call.specs.Points.{isIn}
-use Rattle.call.specs.Record.{isPresent, isPending, isHeld, setOf}
+use Rattle.call.specs.Record.{isPresent, isPending, isHeld, setOf, legAt}
 
--- a period "as in Forms"; no "start later than last time"
+-- a period "as in Forms"; no "start later than last time". What a charge does not have is zero: period and start where none is pending, the start while it waits.
+abbrev pub chargeInRangeAs : Clock → Charge → Tenths → Bool
+chargeInRangeAs clock.None c last = eqb (c .period .0) 0 && eqb (c .start .0) 0
+chargeInRangeAs clock.Waiting c last = isPeriod (c .period) && eqb (c .start .0) 0
+chargeInRangeAs clock.Running c last = isPeriod (c .period) && leb (c .start .0) (last .0)
+
 abbrev pub chargeInRange : Charge → Tenths → Bool
-chargeInRange charge.None last = true
-chargeInRange (charge.Waiting period) last = isPeriod period
-chargeInRange (charge.Running period start) last = isPeriod period && leb (start .0) (last .0)
+chargeInRange c last = chargeInRangeAs (c .clock) c last
 
 -- "hold none, 2 or an armable point with its leg, 50 excepted"
 abbrev pub holdInRange : PointSet → Hold → Bool
@@ -44,7 +48,7 @@ numberInRange n = nature (n .nature) .inRange && digitCount (n .count) .inRange 
 -- "times below 2^48; kept timer 0..2047"; "all else as in Forms"
 unfoldable pub inRangeOf : PointSet → Record → Bool
 inRangeOf dp r =
-    chargeInRange (r .leg1 .charge) (r .last) && chargeInRange (r .leg2 .charge) (r .last) && holdInRange dp (r .hold)
+    chargeInRange (legAt One r .charge) (r .last) && chargeInRange (legAt Two r .charge) (r .last) && holdInRange dp (r .hold)
     && isClockReading (r .last) && armingsInRange dp (r .armings) && isTimer (r .kept)
     && isDefaultTimer (r .timer) && numberInRange (r .number)
 
@@ -54,7 +58,7 @@ recordInRange r = inRangeOf (setOf r) r
 -- ---- "A free record is blank: every field zero or none."
 
 abbrev pub isUnused : LegState → Bool
-isUnused l = not (isPresent (l .presence)) && not (isPending (l .charge))
+isUnused l = not (isPresent (l .presence)) && not (isPending (l .charge .clock)) && eqb (l .charge .period .0) 0 && eqb (l .charge .start .0) 0
 
 abbrev pub isUnarmed : List Arming → Bool
 isUnarmed a = not (someArmed mode.Interrupted a) && not (someArmed mode.Notify a)
@@ -64,5 +68,5 @@ isNoNumber n = eqb (n .nature) 0 && eqb (n .count) 0 && placesInRange 0 (n .digi
 
 unfoldable pub isBlank : Record → Bool
 isBlank r =
-    isAnalysing (r .stage) && isUnused (r .leg1) && isUnused (r .leg2) && not (isHeld (r .hold)) && eqb (r .last .0) 0
+    isAnalysing (r .stage) && isUnused (legAt One r) && isUnused (legAt Two r) && not (isHeld (r .hold)) && eqb (r .last .0) 0
     && isUnarmed (r .armings) && eqb (r .kept .0) 0 && eqb (r .timer .0) 0 && not (isRelease (r .handling)) && isNoNumber (r .number)

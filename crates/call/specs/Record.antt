@@ -3,11 +3,11 @@ use Prim.Native.Nat.{ℕ}
 use mathlib.Core.Bool.{Bool, true, false}
 use mathlib.Core.List.{List, []}
 use Rattle.forms.specs.Bytes.{pad}
-use Rattle.call.specs.Types.{Leg, Tenths, Seconds, Presence, Charge, LegState, Stage, Hold, Arming, Number, PointSet, Record}
+use Rattle.call.specs.Types.{Leg, Tenths, Seconds, Presence, Clock, Charge, LegState, Stage, Hold, Arming, Number, PointSet, Record}
 use Rattle.forms.specs.declared.item.Leg.the-variants.{One, Two}
 use Rattle.forms.specs.declared.profile.Handling.the-variants.{Continue}
 use Rattle.call.specs.declared.record.Presence.the-variants.{Absent, Present}
-use Rattle.call.specs.declared.record.Charge.the-variants as charge
+use Rattle.call.specs.declared.record.Clock.the-variants as clock
 use Rattle.call.specs.declared.stages.Stage.the-variants.{Analysing}
 use Rattle.call.specs.declared.record.Hold.the-variants as hold
 use Rattle.call.specs.Armings.{noArmings}
@@ -23,15 +23,30 @@ isPresent Absent = false
 isPresent Present = true
 
 -- "one pending charge per leg": none; waiting for the Answer, with its period; running, with its period and its start
-abbrev pub isPending : Charge → Bool
-isPending charge.None = false
-isPending (charge.Waiting period) = true
-isPending (charge.Running period start) = true
+abbrev pub charge : Clock → Tenths → Tenths → Charge
+charge clock period start = record { clock = clock; period = period; start = start }
 
-abbrev pub isStarted : Charge → Bool
-isStarted charge.None = false
-isStarted (charge.Waiting period) = false
-isStarted (charge.Running period start) = true
+abbrev pub noTime : Tenths
+noTime = record { 0 = 0 }
+
+abbrev pub noCharge : Charge
+noCharge = charge clock.None noTime noTime
+
+abbrev pub waiting : Tenths → Charge
+waiting period = charge clock.Waiting period noTime
+
+abbrev pub running : Tenths → Tenths → Charge
+running period start = charge clock.Running period start
+
+abbrev pub isPending : Clock → Bool
+isPending clock.None = false
+isPending clock.Waiting = true
+isPending clock.Running = true
+
+abbrev pub isStarted : Clock → Bool
+isStarted clock.None = false
+isStarted clock.Waiting = false
+isStarted clock.Running = true
 
 -- ---- held (Waiting_For_Instructions): at the trigger, or at a met point
 
@@ -61,55 +76,68 @@ numberOf nature count digits = record { nature = nature; count = count; digits =
 -- "A free record is blank: every field zero or none."
 abbrev pub blank : Record
 blank = record {
-  stage = Analysing;
-  leg1 = leg Absent charge.None;
-  leg2 = leg Absent charge.None;
-  hold = hold.None;
-  last = record { 0 = 0 };
-  armings = noArmings;
+  last = noTime;
+  period1 = noTime;
+  start1 = noTime;
+  period2 = noTime;
+  start2 = noTime;
   kept = noTimer;
   timer = noTimer;
-  handling = Continue;
+  armings = noArmings;
   number = numberOf 0 0 [];
+  stage = Analysing;
+  hold = hold.None;
+  handling = Continue;
+  leg1 = Absent;
+  leg2 = Absent;
+  clock1 = clock.None;
+  clock2 = clock.None;
 }
+
+-- a leg lies in four fields of the record: it is taken out, and `made` puts it in
+abbrev pub legAt : Leg → Record → LegState
+legAt One r = leg (r .leg1) (charge (r .clock1) (r .period1) (r .start1))
+legAt Two r = leg (r .leg2) (charge (r .clock2) (r .period2) (r .start2))
 
 -- all but the profile's defaults is given
 abbrev pub made : Record → Stage → LegState → LegState → Hold → Tenths → List Arming → Seconds → Number → Record
-made r stage leg1 leg2 hold last armings kept number = record {
-  stage = stage;
-  leg1 = leg1;
-  leg2 = leg2;
-  hold = hold;
+made r stage one two hold last armings kept number = record {
   last = last;
-  armings = armings;
+  period1 = one .charge .period;
+  start1 = one .charge .start;
+  period2 = two .charge .period;
+  start2 = two .charge .start;
   kept = kept;
   timer = r .timer;
-  handling = r .handling;
+  armings = armings;
   number = number;
+  stage = stage;
+  hold = hold;
+  handling = r .handling;
+  leg1 = one .presence;
+  leg2 = two .presence;
+  clock1 = one .charge .clock;
+  clock2 = two .charge .clock;
 }
 
 -- the last time
 abbrev pub timed : Record → Tenths → Record
-timed r t = made r (r .stage) (r .leg1) (r .leg2) (r .hold) t (r .armings) (r .kept) (r .number)
+timed r t = made r (r .stage) (legAt One r) (legAt Two r) (r .hold) t (r .armings) (r .kept) (r .number)
 
 -- the stage and the point of suspension
 abbrev pub staged : Record → Stage → Hold → Record
-staged r stage hold = made r stage (r .leg1) (r .leg2) hold (r .last) (r .armings) (r .kept) (r .number)
+staged r stage hold = made r stage (legAt One r) (legAt Two r) hold (r .last) (r .armings) (r .kept) (r .number)
 
 abbrev pub withLegs : Record → LegState → LegState → Record
-withLegs r leg1 leg2 = made r (r .stage) leg1 leg2 (r .hold) (r .last) (r .armings) (r .kept) (r .number)
-
-abbrev pub legAt : Leg → Record → LegState
-legAt One r = r .leg1
-legAt Two r = r .leg2
+withLegs r one two = made r (r .stage) one two (r .hold) (r .last) (r .armings) (r .kept) (r .number)
 
 abbrev pub withLeg : Leg → Record → LegState → Record
-withLeg One r l = withLegs r l (r .leg2)
-withLeg Two r l = withLegs r (r .leg1) l
+withLeg One r l = withLegs r l (legAt Two r)
+withLeg Two r l = withLegs r (legAt One r) l
 
 -- the armings and the kept timer
 abbrev pub armedAs : Record → List Arming → Seconds → Record
-armedAs r armings kept = made r (r .stage) (r .leg1) (r .leg2) (r .hold) (r .last) armings kept (r .number)
+armedAs r armings kept = made r (r .stage) (legAt One r) (legAt Two r) (r .hold) (r .last) armings kept (r .number)
 
 abbrev pub numbered : Record → Number → Record
-numbered r n = made r (r .stage) (r .leg1) (r .leg2) (r .hold) (r .last) (r .armings) (r .kept) n
+numbered r n = made r (r .stage) (legAt One r) (legAt Two r) (r .hold) (r .last) (r .armings) (r .kept) n

@@ -65,7 +65,7 @@ row12 possible = row 12 (not possible)
 
 -- "charge already pending on that leg"
 abbrev pub row13 : Record → Leg → Row
-row13 r l = row 13 (isPending (legAt l r .charge))
+row13 r l = row 13 (isPending (legAt l r .charge .clock))
 
 -- "Period over before start + period"
 abbrev pub row14 : Record → Leg → Tenths → Row
@@ -75,11 +75,11 @@ row14 r l t = row 14 (isBeforeEnd (legAt l r .charge) t)
 abbrev pub rowsOf : PointSet → Record → Kind → Tenths → List ℕ → List Row
 rowsOf dp r (kind.Setup nature service forwarded count) t rest = row5 ∷ []
 rowsOf dp r (kind.Event p) t rest = row7 r t ∷ row9 r p ∷ row12 (canMeet dp r p) ∷ []
-rowsOf dp r (kind.PeriodOver l) t rest = row7 r t ∷ row12 (isStarted (legAt l r .charge)) ∷ row14 r l t ∷ []
+rowsOf dp r (kind.PeriodOver l) t rest = row7 r t ∷ row12 (isStarted (legAt l r .charge .clock)) ∷ row14 r l t ∷ []
 rowsOf dp r (kind.RequestReport n) t rest = row7 r t ∷ row8 r ∷ row11 dp (entriesOf n rest) ∷ row12 (arePossible dp r (entriesOf n rest)) ∷ []
 rowsOf dp r kind.Continue t rest = row7 r t ∷ row8 r ∷ row10 r ∷ []
 rowsOf dp r (kind.Connect nature count) t rest = row7 r t ∷ row8 r ∷ row10 r ∷ row12 (canConnect r) ∷ []
 rowsOf dp r kind.Release t rest = row7 r t ∷ row8 r ∷ []
-rowsOf dp r (kind.ApplyCharging l period) t rest = row7 r t ∷ row8 r ∷ row12 (isPresent (r .leg1 .presence) && isPresent (legAt l r .presence)) ∷ row13 r l ∷ []
+rowsOf dp r (kind.ApplyCharging l period) t rest = row7 r t ∷ row8 r ∷ row12 (isPresent (r .leg1) && isPresent (legAt l r .presence)) ∷ row13 r l ∷ []
 rowsOf dp r kind.ActivityTest t rest = row7 r t ∷ row8Any r ∷ []
 rowsOf dp r kind.Abort t rest = row7 r t ∷ row8Any r ∷ []

@@ -9,7 +9,7 @@ use Rattle.call.specs.Record.{isPending, isHeld}
 abbrev pub relationshipOf : Record → Relationship
 relationshipOf r =
     cond (isHeld (r .hold) || someArmed mode.Interrupted (r .armings)) relationship.Control
-    (cond (someArmed mode.Notify (r .armings) || (isPending (r .leg1 .charge) || isPending (r .leg2 .charge))) relationship.Monitor
+    (cond (someArmed mode.Notify (r .armings) || (isPending (r .clock1) || isPending (r .clock2))) relationship.Monitor
     relationship.None)
 
 abbrev pub isControl : Relationship → Bool

@@ -59,7 +59,7 @@ noneSeen = replicate 10 false
 
 -- "none once leg 1 is absent; with leg 2 absent, any (a Connect may follow); else 4 and 19 in analysing, …"
 abbrev pub canOccur : Record → Role → Bool
-canOccur r p = isPresent (r .leg1 .presence) && (not (isPresent (r .leg2 .presence)) || occursFrom p (r .stage))
+canOccur r p = isPresent (r .leg1) && (not (isPresent (r .leg2)) || occursFrom p (r .stage))
 
 abbrev pub isPossible : Record → Named → ℕ → Bool
 isPossible r Unknown m = true

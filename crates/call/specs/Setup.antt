@@ -6,7 +6,7 @@ use Rattle.forms.specs.Profile.{profileOf}
 use Rattle.call.specs.Types.{Item, Handling, Tenths, Seconds, PointSet, Hold, Number, Record, Stepped, Kind}
 use Rattle.call.specs.declared.stages.Stage.the-variants.{Analysing}
 use Rattle.call.specs.declared.record.Presence.the-variants.{Present}
-use Rattle.call.specs.declared.record.Charge.the-variants as charge
+use Rattle.call.specs.declared.record.Clock.the-variants as clock
 use Rattle.call.specs.declared.record.Hold.the-variants as hold
 use Rattle.call.specs.declared.charging.ChargeReport.the-variants as due
 use Rattle.call.specs.declared.answers.Report.the-variants as report
@@ -14,7 +14,7 @@ use Rattle.call.specs.declared.answers.Deadline.the-variants as deadline
 use Rattle.call.specs.declared.kind.Kind.the-variants as kind
 use Rattle.call.specs.Armings.{noArmings}
 use Rattle.call.specs.Points.{originating}
-use Rattle.call.specs.Record.{leg, noTimer, numberOf, blank}
+use Rattle.call.specs.Record.{noTime, noTimer, numberOf, blank}
 use Rattle.call.specs.Answers.{firstOf, reports, goesOn, refused, guarded}
 use Rattle.call.specs.Trigger.{triggers}
 use Rattle.call.specs.Operations.{routed}
@@ -25,16 +25,22 @@ use Rattle.call.specs.Refusals.{row1, row2}
 
 abbrev pub opened : Seconds → Handling → Number → Hold → Tenths → Record
 opened timer handling number hold t = record {
-  stage = Analysing;
-  leg1 = leg Present charge.None;
-  leg2 = leg Present charge.None;
-  hold = hold;
   last = t;
-  armings = noArmings;
+  period1 = noTime;
+  start1 = noTime;
+  period2 = noTime;
+  start2 = noTime;
   kept = noTimer;
   timer = timer;
-  handling = handling;
+  armings = noArmings;
   number = number;
+  stage = Analysing;
+  hold = hold;
+  handling = handling;
+  leg1 = Present;
+  leg2 = Present;
+  clock1 = clock.None;
+  clock2 = clock.None;
 }
 
 -- Triggering: "the call is held at point 2 and an interrupting report for 2, leg 1, goes out; otherwise it goes on with no relationship". "Routing starts at an untriggered Setup"

@@ -23,6 +23,7 @@ pub use Rattle.call.specs.declared.kind.Kind.{Kind}
 pub use Rattle.call.specs.declared.points.Named.{Named}
 pub use Rattle.call.specs.declared.points.Point.{Point}
 pub use Rattle.call.specs.declared.record.Charge.{Charge}
+pub use Rattle.call.specs.declared.record.Clock.{Clock}
 pub use Rattle.call.specs.declared.record.Hold.{Hold}
 pub use Rattle.call.specs.declared.record.LegState.{LegState}
 pub use Rattle.call.specs.declared.record.Number.{Number}

@@ -10,6 +10,7 @@ use crate::record;
 use crate::record::*;
 use crate::relationship;
 use crate::relationship::Relationship;
+use forms::item::Leg;
 use forms::units::Tenths;
 
 // The point at which the call is held, or none.
@@ -106,10 +107,10 @@ pub(crate) fn go_on_quietly(next: Record) -> Stepped
 pub(crate) fn end(r: Record, event: Report, t: Tenths) -> Stepped
     ensures { λ s. ⌜ s ≡ ended r event t ⌝ }
 {
-    let leg1 = r.leg1;
-    let leg2 = r.leg2;
-    let c1 = leg1.charge;
-    let c2 = leg2.charge;
+    let one = record::leg_at(Leg::One, r);
+    let two = record::leg_at(Leg::Two, r);
+    let c1 = one.charge;
+    let c2 = two.charge;
     let charge1 = charging::report_of(t, c1);
     let charge2 = charging::report_of(t, c2);
     let reports = Reports {

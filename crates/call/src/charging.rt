@@ -3,6 +3,7 @@ ghost use mathlib.Core.Path.{_≡_};
 ghost use Prim.Native.Nat.{_+_, _-_, min};
 ghost use lib.Dec.{ltb};
 ghost use Rattle.call.specs.Charging.{answered, granted, reportOf};
+use crate::record;
 use crate::record::*;
 use crate::stages;
 use crate::stages::Stage;
@@ -18,10 +19,12 @@ pub enum ChargeReport {
 pub(crate) fn answer(t: Tenths, c: Charge) -> Charge
     ensures { λ r. ⌜ r ≡ answered t c ⌝ }
 {
-    match c {
-        Charge::None => Charge::None,
-        Charge::Waiting(period) => Charge::Running(period, t),
-        Charge::Running(period, start) => Charge::Running(period, start),
+    let clock = c.clock;
+    let period = c.period;
+    match clock {
+        Clock::None => c,
+        Clock::Waiting => record::running(period, t),
+        Clock::Running => c,
     }
 }
 
@@ -29,12 +32,10 @@ pub(crate) fn answer(t: Tenths, c: Charge) -> Charge
 pub(crate) fn grant(s: Stage, period: Tenths, t: Tenths) -> Charge
     ensures { λ r. ⌜ r ≡ granted s period t ⌝ }
 {
-    let waiting = Charge::Waiting(period);
-    let running = Charge::Running(period, t);
     if stages::is_active(s) {
-        running
+        record::running(period, t)
     } else {
-        waiting
+        record::waiting(period)
     }
 }
 
@@ -64,9 +65,12 @@ fn elapsed(t: Tenths, start: Tenths, period: Tenths) -> Tenths
 pub(crate) fn report_of(t: Tenths, c: Charge) -> ChargeReport
     ensures { λ r. ⌜ r ≡ reportOf t c ⌝ }
 {
-    match c {
-        Charge::None => ChargeReport::None,
-        Charge::Waiting(_) => ChargeReport::Elapsed(Tenths(0)),
-        Charge::Running(period, start) => ChargeReport::Elapsed(elapsed(t, start, period)),
+    let clock = c.clock;
+    let period = c.period;
+    let start = c.start;
+    match clock {
+        Clock::None => ChargeReport::None,
+        Clock::Waiting => ChargeReport::Elapsed(Tenths(0)),
+        Clock::Running => ChargeReport::Elapsed(elapsed(t, start, period)),
     }
 }

@@ -1,6 +1,7 @@
 // Events: a role is met (document 01, One call).
 ghost use mathlib.Core.Path.{_≡_};
 ghost use Rattle.call.specs.Points.{originating};
+ghost use Rattle.call.specs.Record.{legAt};
 ghost use Rattle.call.specs.Events.{isClearOf1, canMeet, eventReport, holdAfter, legAfter, chargeAfter, endsCall, met};
 use crate::answers;
 use crate::answers::*;
@@ -34,7 +35,9 @@ pub(crate) fn can_meet(r: Record, p: Role) -> bool
     let met = part.met;
     let q = points::point_in(p);
     let leg = q.leg;
-    stages::is_within(met, s) & points::is_point(q) & record::is_present(record::leg_at(leg, r))
+    let l = record::leg_at(leg, r);
+    let presence = l.presence;
+    stages::is_within(met, s) & points::is_point(q) & record::is_present(presence)
 }
 
 // What becomes of a leg, and the report of its charge.
@@ -43,16 +46,18 @@ struct LegAfter {
     report: ChargeReport,
 }
 
-fn leg_after(p: Role, leg: Leg, t: Tenths, l: LegState) -> LegAfter
-    ensures { λ r. ⌜ r ≡ record { state = legAfter originating p leg t l; report = chargeAfter originating p leg t l } ⌝ }
+fn leg_after(r: Record, p: Role, leg: Leg, t: Tenths) -> LegAfter
+    ensures { λ s. ⌜ s ≡ record { state = legAfter originating p leg t (legAt leg r); report = chargeAfter originating p leg t (legAt leg r) } ⌝ }
 {
+    let l = record::leg_at(leg, r);
     let presence = l.presence;
     let c = l.charge;
     if points::takes_leg(p, leg) {
+        let none = record::no_charge();
         return LegAfter {
             state: LegState {
                 presence: Presence::Absent,
-                charge: Charge::None,
+                charge: none,
             },
             report: charging::report_of(t, c),
         };
@@ -108,9 +113,9 @@ pub(crate) fn meet(r: Record, p: Role, t: Tenths) -> Stepped
     ensures { λ s. ⌜ s ≡ met originating r p t ⌝ }
 {
     let stage = r.stage;
-    let l1 = r.leg1;
-    let l2 = r.leg2;
     let a = r.armings;
+    let kept = r.kept;
+    let number = r.number;
     let m = armings::mode_at(p, a);
     let by = by_mode(p, m);
     let event = by.event;
@@ -118,18 +123,15 @@ pub(crate) fn meet(r: Record, p: Role, t: Tenths) -> Stepped
         return answers::end(r, event, t);
     }
     let hold = by.hold;
-    let one = leg_after(p, Leg::One, t, l1);
-    let two = leg_after(p, Leg::Two, t, l2);
+    let one = leg_after(r, p, Leg::One, t);
+    let two = leg_after(r, p, Leg::Two, t);
     let leg1 = one.state;
     let leg2 = two.state;
     let charge1 = one.report;
     let charge2 = two.report;
     let armings = points::disarm(p, a);
-    let mut next = record::with_stage_and_hold(r, roles::stage_after(p, stage), hold);
-    next.leg1 = leg1;
-    next.leg2 = leg2;
-    next.last = t;
-    next.armings = armings;
+    let after = roles::stage_after(p, stage);
+    let next = record::made(r, after, leg1, leg2, hold, t, armings, kept, number);
     let reports = Reports {
         event,
         charge1,

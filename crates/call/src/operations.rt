@@ -74,49 +74,63 @@ pub(crate) fn can_connect(r: Record) -> bool
     record::is_trigger(h) | (record::is_present(leg1) & !record::is_present(leg2))
 }
 
-// Leg 2 is present again, the stage analysing, the number replaced, and routing starts.
+// Leg 2 is present again, the stage analysing, and the number replaced.
+fn connected_record(r: Record, number: Number, t: Tenths) -> Record
+    ensures { λ s. ⌜ s ≡ connected r number t ⌝ }
+{
+    let armings = r.armings;
+    let kept = r.kept;
+    let one = record::leg_at(Leg::One, r);
+    let l = record::leg_at(Leg::Two, r);
+    let charge = l.charge;
+    let two = LegState {
+        presence: Presence::Present,
+        charge,
+    };
+    record::made(
+        r,
+        Stage::Analysing,
+        one,
+        two,
+        Hold::None,
+        t,
+        armings,
+        kept,
+        number,
+    )
+}
+
+// The record is connected, and routing starts.
 pub(crate) fn connect(r: Record, nature: u8, count: u8, digits: &[u8], t: Tenths) -> Stepped
     requires { ⌜ t .0 < clockEnd ⌝ }
     ensures { λ s. ⌜ s ≡ routed originating (connected r (numberOf nature count (now (digits .entry))) t) t ⌝ }
 {
-    let l = r.leg2;
-    let charge = l.charge;
-    let leg2 = LegState {
-        presence: Presence::Present,
-        charge,
-    };
     let number = record::number_of(nature, count, digits);
-    let mut next = record::with_stage_and_hold(r, Stage::Analysing, Hold::None);
-    next.leg2 = leg2;
-    next.last = t;
-    next.number = number;
-    route(next, t)
+    route(connected_record(r, number, t), t)
 }
 
 // All armings, charges and the kept timer are dropped.
 fn drop_all(r: Record) -> Record
     ensures { λ s. ⌜ s ≡ dropped r ⌝ }
 {
-    let l1 = r.leg1;
-    let l2 = r.leg2;
-    let p1 = l1.presence;
-    let p2 = l2.presence;
-    let leg1 = LegState {
-        presence: p1,
-        charge: Charge::None,
+    let stage = r.stage;
+    let hold = r.hold;
+    let last = r.last;
+    let number = r.number;
+    let presence1 = r.leg1;
+    let presence2 = r.leg2;
+    let none = record::no_charge();
+    let one = LegState {
+        presence: presence1,
+        charge: none,
     };
-    let leg2 = LegState {
-        presence: p2,
-        charge: Charge::None,
+    let two = LegState {
+        presence: presence2,
+        charge: none,
     };
     let armings = armings::no_armings();
-    let none = Seconds(0);
-    let mut s = r;
-    s.leg1 = leg1;
-    s.leg2 = leg2;
-    s.armings = armings;
-    s.kept = none;
-    s
+    let kept = Seconds(0);
+    record::made(r, stage, one, two, hold, last, armings, kept, number)
 }
 
 pub(crate) fn abort(r: Record, t: Tenths) -> Stepped
@@ -171,7 +185,11 @@ pub(crate) fn period_over(r: Record, leg: Leg, t: Tenths) -> Stepped
     let l = record::leg_at(leg, r);
     let c = l.charge;
     let reports = report_on(leg, charging::report_of(t, c));
-    answers::go_on(charge(r, leg, Charge::None, t), reports, Deadline::None)
+    answers::go_on(
+        charge(r, leg, record::no_charge(), t),
+        reports,
+        Deadline::None,
+    )
 }
 
 pub(crate) fn apply_charging(r: Record, leg: Leg, period: Tenths, t: Tenths) -> Stepped

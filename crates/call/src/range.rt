@@ -14,16 +14,20 @@ use crate::roles;
 use crate::roles::Role;
 use crate::stages;
 use forms::fields;
+use forms::item::Leg;
 use forms::profile;
 use forms::units::*;
 
 fn charge_in_range(c: Charge, last: Tenths) -> bool
     ensures { λ b. ⌜ b ≡ chargeInRange c last ⌝ }
 {
-    match c {
-        Charge::None => true,
-        Charge::Waiting(period) => period.is_period(),
-        Charge::Running(period, start) => period.is_period() & (start.0 <= last.0),
+    let clock = c.clock;
+    let period = c.period;
+    let start = c.start;
+    match clock {
+        Clock::None => (period.0 == 0) & (start.0 == 0),
+        Clock::Waiting => period.is_period() & (start.0 == 0),
+        Clock::Running => period.is_period() & (start.0 <= last.0),
     }
 }
 
@@ -80,16 +84,16 @@ fn number_in_range(n: Number) -> bool
 pub fn record_in_range(r: Record) -> bool
     ensures { λ b. ⌜ b ≡ recordInRange r ⌝ }
 {
-    let leg1 = r.leg1;
-    let leg2 = r.leg2;
-    let c1 = leg1.charge;
-    let c2 = leg2.charge;
     let h = r.hold;
     let last = r.last;
     let a = r.armings;
     let kept = r.kept;
     let timer = r.timer;
     let number = r.number;
+    let one = record::leg_at(Leg::One, r);
+    let two = record::leg_at(Leg::Two, r);
+    let c1 = one.charge;
+    let c2 = two.charge;
     charge_in_range(c1, last)
         & charge_in_range(c2, last)
         & hold_in_range(h)
@@ -104,8 +108,12 @@ pub fn record_in_range(r: Record) -> bool
 fn is_unused(l: LegState) -> bool
     ensures { λ b. ⌜ b ≡ isUnused l ⌝ }
 {
-    let c = l.charge;
-    !record::is_present(l) & !record::is_pending(c)
+    let presence = l.presence;
+    let charge = l.charge;
+    let clock = charge.clock;
+    let period = charge.period;
+    let start = charge.start;
+    !record::is_present(presence) & !record::is_pending(clock) & (period.0 == 0) & (start.0 == 0)
 }
 
 fn is_unarmed(a: [Arming; 10]) -> bool
@@ -128,8 +136,6 @@ pub fn is_blank(r: Record) -> bool
     ensures { λ b. ⌜ b ≡ isBlank r ⌝ }
 {
     let stage = r.stage;
-    let leg1 = r.leg1;
-    let leg2 = r.leg2;
     let h = r.hold;
     let last = r.last;
     let a = r.armings;
@@ -137,9 +143,11 @@ pub fn is_blank(r: Record) -> bool
     let timer = r.timer;
     let handling = r.handling;
     let number = r.number;
+    let one = record::leg_at(Leg::One, r);
+    let two = record::leg_at(Leg::Two, r);
     stages::is_analysing(stage)
-        & is_unused(leg1)
-        & is_unused(leg2)
+        & is_unused(one)
+        & is_unused(two)
         & !record::is_held(h)
         & (last.0 == 0)
         & is_unarmed(a)

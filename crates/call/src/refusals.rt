@@ -49,22 +49,21 @@ fn event_refusal(r: Record, p: Role, t: Tenths) -> Check
 
 // Refusals 12 and 14 of Period over.
 fn period_check(c: Charge, t: Tenths) -> Check
-    ensures { λ r. ⌜ r ≡ cond (not (isStarted c)) (Check.Fail 12) (cond (isBeforeEnd c t) (Check.Fail 14) Check.Pass) ⌝ }
+    ensures { λ r. ⌜ r ≡ cond (not (isStarted (c .clock))) (Check.Fail 12) (cond (isBeforeEnd c t) (Check.Fail 14) Check.Pass) ⌝ }
 {
-    match c {
-        Charge::None => Check::Fail(12),
-        Charge::Waiting(_) => Check::Fail(12),
-        Charge::Running(period, start) => refuse_if(
-            charging::is_before(t, start, period),
-            14,
-            Check::Pass,
-        ),
+    let clock = c.clock;
+    let period = c.period;
+    let start = c.start;
+    match clock {
+        Clock::None => Check::Fail(12),
+        Clock::Waiting => Check::Fail(12),
+        Clock::Running => refuse_if(charging::is_before(t, start, period), 14, Check::Pass),
     }
 }
 
 // Rows 7, 12 and 14.
 fn period_refusal(r: Record, leg: Leg, t: Tenths) -> Check
-    ensures { λ c. ⌜ c ≡ firstOf (row7 r t ∷ row12 (isStarted (legAt leg r .charge)) ∷ row14 r leg t ∷ []) ⌝ }
+    ensures { λ c. ⌜ c ≡ firstOf (row7 r t ∷ row12 (isStarted (legAt leg r .charge .clock)) ∷ row14 r leg t ∷ []) ⌝ }
 {
     let last = r.last;
     let l = record::leg_at(leg, r);
@@ -92,13 +91,15 @@ fn related_refusal(r: Record, t: Tenths) -> Check
 
 // Rows 12 and 13 of Apply charging.
 fn charging_refusal(r: Record, leg: Leg) -> Check
-    ensures { λ c. ⌜ c ≡ firstOf (row12 (isPresent (r .leg1 .presence) && isPresent (legAt leg r .presence)) ∷ row13 r leg ∷ []) ⌝ }
+    ensures { λ c. ⌜ c ≡ firstOf (row12 (isPresent (r .leg1) && isPresent (legAt leg r .presence)) ∷ row13 r leg ∷ []) ⌝ }
 {
     let leg1 = r.leg1;
     let l = record::leg_at(leg, r);
+    let presence = l.presence;
     let charge = l.charge;
-    let possible = record::is_present(leg1) & record::is_present(l);
-    let pending = refuse_if(record::is_pending(charge), 13, Check::Pass);
+    let clock = charge.clock;
+    let possible = record::is_present(leg1) & record::is_present(presence);
+    let pending = refuse_if(record::is_pending(clock), 13, Check::Pass);
     refuse_if(!possible, 12, pending)
 }
 

@@ -20,11 +20,11 @@ pub(crate) fn relationship_of(r: Record) -> Relationship
     if record::is_held(h) | armings::some_armed(Mode::Interrupted, a) {
         return Relationship::Control;
     }
-    let leg1 = r.leg1;
-    let leg2 = r.leg2;
-    let c1 = leg1.charge;
-    let c2 = leg2.charge;
-    if armings::some_armed(Mode::Notify, a) | (record::is_pending(c1) | record::is_pending(c2)) {
+    let clock1 = r.clock1;
+    let clock2 = r.clock2;
+    if armings::some_armed(Mode::Notify, a)
+        | (record::is_pending(clock1) | record::is_pending(clock2))
+    {
         return Relationship::Monitor;
     }
     Relationship::None

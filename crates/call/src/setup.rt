@@ -33,22 +33,24 @@ fn opened_record(
 ) -> Record
     ensures { λ r. ⌜ r ≡ opened timer handling number hold t ⌝ }
 {
-    let present = LegState {
-        presence: Presence::Present,
-        charge: Charge::None,
-    };
     let armings = armings::no_armings();
     Record {
-        stage: Stage::Analysing,
-        leg1: present,
-        leg2: present,
-        hold,
         last: t,
-        armings,
+        period1: Tenths(0),
+        start1: Tenths(0),
+        period2: Tenths(0),
+        start2: Tenths(0),
         kept: Seconds(0),
         timer,
-        handling,
+        armings,
         number,
+        stage: Stage::Analysing,
+        hold,
+        handling,
+        leg1: Presence::Present,
+        leg2: Presence::Present,
+        clock1: Clock::None,
+        clock2: Clock::None,
     }
 }
 

@@ -14,9 +14,9 @@ use Rattle.forms.specs.declared.item.Body.{Body}
 use Rattle.forms.specs.declared.item.Body.the-variants as body
 use Rattle.forms.proofs.Cases as forms
 use Rattle.call.specs.declared.answers.Answer.the-variants.{Refused}
-use Rattle.call.specs.declared.record.Charge.the-variants.{Running}
+use Rattle.forms.specs.declared.item.Leg.the-variants.{Two}
 use Rattle.call.specs.Armings.{someArmed}
-use Rattle.call.specs.Record.{armedAs, withLegs, leg}
+use Rattle.call.specs.Record.{armedAs, withLeg, leg, running}
 use Rattle.call.specs.Trigger.{triggers}
 use Rattle.call.specs.Request.{entriesOf, areGood, arePossible, armedWith}
 use Rattle.call.specs.Events.{met}
@@ -136,7 +136,7 @@ abbrev keeps : ℕ → Record
 keeps n = armedAs record7 (record7 .armings) (record { 0 = n })
 
 abbrev startedAt : ℕ → Record
-startedAt n = withLegs record7 (record7 .leg1) (leg (record7 .leg2 .presence) (Running (record { 0 = 600 }) (record { 0 = n })))
+startedAt n = withLeg Two record7 (leg (record7 .leg2) (running (record { 0 = 600 }) (record { 0 = n })))
 
 -- refusal 3: "table not 64 records, a field out of range, a free record not blank, start later than last time, or one call twice"
 abbrev damaged : List (List Slot)

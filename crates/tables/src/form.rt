@@ -2,7 +2,7 @@
 // Numbers are big-endian. Each field has a fixed place, so that any value which a slot can hold has a form:
 //   0 owner (0 free, 1 a call), 1 call (4), 5 stage, 6 leg 1, 24 leg 2, 42 hold, 43 last time (8), 51 ten armings,
 //   61 kept timer (4), 65 default timer (4), 69 default handling, 70 called number: nature, count, 15 digits
-// A leg: presence, charge (0 none, 1 waiting, 2 running), period (8), start (8). Enums are numbered as they are declared; a hold at a role is 2 more than the role's place.
+// A leg: presence, clock of its charge (0 none, 1 waiting, 2 running), period (8), start (8). Enums are numbered as they are declared; a hold at a role is 2 more than the role's place.
 ghost use Prim.Native.Nat.{_<_};
 use call::armings::*;
 use call::record::*;
@@ -48,23 +48,12 @@ fn presence_of(b: u8) -> Presence {
     }
 }
 
-fn charge_of(b: u8, period: Tenths, start: Tenths) -> Charge {
+fn clock_of(b: u8) -> Clock {
     match b {
-        1 => Charge::Waiting(period),
-        2 => Charge::Running(period, start),
-        _ => Charge::None,
+        1 => Clock::Waiting,
+        2 => Clock::Running,
+        _ => Clock::None,
     }
-}
-
-fn leg_at(s: &[u8], at: usize) -> LegState {
-    let t = bytes::from(s, at);
-    let presence = presence_of(bytes::at(t, 0));
-    let charge = charge_of(
-        bytes::at(t, 1),
-        Tenths(number8(t, 2)),
-        Tenths(number8(t, 10)),
-    );
-    LegState { presence, charge }
 }
 
 fn hold_of(b: u8) -> Hold {
@@ -132,8 +121,14 @@ fn number_at(s: &[u8], at: usize) -> Number {
 
 fn record_at(s: &[u8]) -> Record {
     let stage = stage_of(bytes::at(s, 5));
-    let leg1 = leg_at(s, 6);
-    let leg2 = leg_at(s, 24);
+    let leg1 = presence_of(bytes::at(s, 6));
+    let clock1 = clock_of(bytes::at(s, 7));
+    let period1 = Tenths(number8(s, 8));
+    let start1 = Tenths(number8(s, 16));
+    let leg2 = presence_of(bytes::at(s, 24));
+    let clock2 = clock_of(bytes::at(s, 25));
+    let period2 = Tenths(number8(s, 26));
+    let start2 = Tenths(number8(s, 34));
     let hold = hold_of(bytes::at(s, 42));
     let last = Tenths(number8(s, 43));
     let armings = armings_at(s);
@@ -142,16 +137,22 @@ fn record_at(s: &[u8]) -> Record {
     let handling = handling_of(bytes::at(s, 69));
     let number = number_at(s, 70);
     Record {
-        stage,
-        leg1,
-        leg2,
-        hold,
         last,
-        armings,
+        period1,
+        start1,
+        period2,
+        start2,
         kept,
         timer,
-        handling,
+        armings,
         number,
+        stage,
+        hold,
+        handling,
+        leg1,
+        leg2,
+        clock1,
+        clock2,
     }
 }
 
@@ -223,25 +224,21 @@ fn presence_number(presence: Presence) -> u8 {
     }
 }
 
-fn put_charge(d: &mut [u8], at: usize, kind: u8, period: Tenths, start: Tenths)
-    requires { ⌜ at < 70 ⌝ }
-{
-    put(d, at, kind);
-    put8(d, at + 1, period.0);
-    put8(d, at + 9, start.0);
+fn clock_number(clock: Clock) -> u8 {
+    match clock {
+        Clock::None => 0,
+        Clock::Waiting => 1,
+        Clock::Running => 2,
+    }
 }
 
-fn put_leg(d: &mut [u8], at: usize, leg: LegState)
+fn put_leg(d: &mut [u8], at: usize, presence: Presence, clock: Clock, period: Tenths, start: Tenths)
     requires { ⌜ at < 69 ⌝ }
 {
-    let presence = leg.presence;
-    let charge = leg.charge;
     put(d, at, presence_number(presence));
-    match charge {
-        Charge::None => put_charge(d, at + 1, 0, Tenths(0), Tenths(0)),
-        Charge::Waiting(period) => put_charge(d, at + 1, 1, period, Tenths(0)),
-        Charge::Running(period, start) => put_charge(d, at + 1, 2, period, start),
-    }
+    put(d, at + 1, clock_number(clock));
+    put8(d, at + 2, period.0);
+    put8(d, at + 10, start.0);
 }
 
 fn role_number(role: Role) -> u8 {
@@ -308,12 +305,18 @@ fn put_number(d: &mut [u8], number: Number) {
 fn put_state(d: &mut [u8], r: Record) {
     let stage = r.stage;
     let leg1 = r.leg1;
+    let clock1 = r.clock1;
+    let period1 = r.period1;
+    let start1 = r.start1;
     let leg2 = r.leg2;
+    let clock2 = r.clock2;
+    let period2 = r.period2;
+    let start2 = r.start2;
     let hold = r.hold;
     let last = r.last;
     put(d, 5, stage_number(stage));
-    put_leg(d, 6, leg1);
-    put_leg(d, 24, leg2);
+    put_leg(d, 6, leg1, clock1, period1, start1);
+    put_leg(d, 24, leg2, clock2, period2, start2);
     put(d, 42, hold_number(hold));
     put8(d, 43, last.0);
 }

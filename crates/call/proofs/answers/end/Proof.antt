@@ -6,5 +6,5 @@ use Rattle.call.proofs.answers.end.Tie as tie
 pub end-spec : {M : Type 1} → statement M
 end-spec =
     tie.close
-    (tie.spec (search needs) (search needs) (search needs)
-    (λ c. simp (c .blank-record .ensures, c .before .report-of2 .ensures, c .before .before .report-of .ensures)))
+    (tie.spec (search needs) (search needs) (search needs) (search needs) (search needs)
+    (λ c. let r = c .before .before in simp (c .blank-record .ensures, c .before .report-of2 .ensures, r .report-of .ensures, r .before .before .before .leg-at2 .ensures, r .before .before .before .before .leg-at .ensures)))

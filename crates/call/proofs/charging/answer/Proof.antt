@@ -6,6 +6,10 @@ use Rattle.call.proofs.charging.answer.Tie as tie
 pub answer-spec : {M : Type 1} → statement M
 answer-spec =
     tie.close
-    (tie.spec (search needs) (search needs) (search needs) (λ c. search needs)
-    (λ c. simp (c .before .c .given .1))
-    (λ c. simp (c .before .c2 .given .1)))
+    (tie.spec (search needs)
+    (search needs)
+    (search needs)
+    (search needs)
+    (λ c. simp (c .enum-told .given .1))
+    (λ c. simp (c .running .ensures, c .before .enum-told2 .given .1))
+    (λ c. simp (c .enum-told3 .given .1)))

@@ -7,6 +7,6 @@ use Rattle.call.proofs.charging.grant.Tie as tie
 pub grant-spec : {M : Type 1} → statement M
 grant-spec =
     tie.close
-    (tie.spec (search needs)
-    (λ c. rw (sym (c .before .is-active .ensures) ∙ c .if1 .taken))
-    (λ c. rw (sym (c .before .is-active .ensures) ∙ c .if1 .left)))
+    (tie.spec (search needs) (search needs) (search needs)
+    (λ c. rw (c .running .ensures, sym (c .before .before .is-active .ensures) ∙ c .before .if1 .taken))
+    (λ c. rw (c .waiting .ensures, sym (c .before .before .is-active .ensures) ∙ c .before .if1 .left)))

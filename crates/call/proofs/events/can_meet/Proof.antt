@@ -7,4 +7,4 @@ pub can-meet-spec : {M : Type 1} → statement M
 can-meet-spec =
     tie.close
     (tie.spec (search needs) (search needs) (search needs) (search needs) (search needs) (search needs)
-    (λ c. let w = c .before .before .before in simp (c .is-present .ensures, c .before .leg-at .ensures, c .before .before .is-point .ensures, w .is-within .ensures, w .before .point-in .ensures, w .before .before .part-of .ensures)))
+    (λ c. let w = c .before .before .before in simp (c .is-present .ensures, c .before .is-point .ensures, c .before .before .is-within .ensures, w .leg-at .ensures, w .before .point-in .ensures, w .before .before .part-of .ensures)))

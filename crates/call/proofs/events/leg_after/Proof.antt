@@ -7,8 +7,8 @@ use Rattle.call.proofs.events.leg_after.Tie as tie
 pub leg-after-spec : {M : Type 1} → statement M
 leg-after-spec =
     tie.close
-    (tie.spec (search needs) (search needs)
-    (λ c. rw (c .report-of .ensures, sym (c .before .before .takes-leg .ensures) ∙ c .before .if1 .taken))
+    (tie.spec (search needs) (search needs) (search needs) (search needs)
+    (λ c. let d = c .before .before in rw (c .report-of .ensures, c .before .no-charge .ensures, sym (d .before .takes-leg .ensures) ∙ d .if1 .taken, d .before .before .before .leg-at .ensures))
     (search needs) (search needs)
-    (λ c. let d = c .before .before .before in rw (c .answer .ensures, sym (d .before .takes-leg .ensures) ∙ d .if1 .left, sym (c .before .before .is-role .ensures) ∙ c .before .if2 .taken))
-    (λ c. let d = c .before .before in rw (sym (d .before .takes-leg .ensures) ∙ d .if1 .left, sym (c .before .is-role .ensures) ∙ c .if2 .left)))
+    (λ c. let d = c .before .before .before in rw (c .answer .ensures, sym (d .before .takes-leg .ensures) ∙ d .if1 .left, sym (c .before .before .is-role .ensures) ∙ c .before .if2 .taken, d .before .before .before .leg-at .ensures))
+    (λ c. let d = c .before .before in rw (sym (d .before .takes-leg .ensures) ∙ d .if1 .left, sym (c .before .is-role .ensures) ∙ c .if2 .left, d .before .before .before .leg-at .ensures)))

@@ -1,4 +1,4 @@
--- `call::operations::connect` meets its contract: the record that is routed has the new number, leg 2, stage and hold of the definition.
+-- `call::operations::connect` meets its contract: the connected record is routed.
 use borrow.Author.Needs.{needs}
 use Rattle.call.proofs.operations.connect.Statement.{statement}
 use Rattle.call.proofs.operations.connect.Tie as tie
@@ -7,4 +7,4 @@ pub connect-spec : {M : Type 1} → statement M
 connect-spec =
     tie.close
     (tie.spec (search needs) (search needs) (search needs)
-    (λ c. simp (c .route .ensures, c .before .with-stage-and-hold .ensures, c .before .before .number-of .ensures)))
+    (λ c. rw (c .route .ensures, c .before .connected-record .ensures, c .before .before .number-of .ensures)))

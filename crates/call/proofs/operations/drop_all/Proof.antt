@@ -7,4 +7,6 @@ pub drop-all-spec : {M : Type 1} → statement M
 drop-all-spec =
     tie.close
     (tie.spec (search needs)
-    (λ c. simp (c .no-armings .ensures)))
+    (search needs)
+    (search needs)
+    (λ c. simp (c .made .ensures, c .before .no-armings .ensures, c .before .before .no-charge .ensures)))

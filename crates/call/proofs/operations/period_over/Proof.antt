@@ -6,5 +6,5 @@ use Rattle.call.proofs.operations.period_over.Tie as tie
 pub period-over-spec : {M : Type 1} → statement M
 period-over-spec =
     tie.close
-    (tie.spec (search needs) (search needs) (search needs) (search needs) (search needs)
-    (λ c. simp (c .go-on .ensures, c .before .charge .ensures, c .before .before .report-on .ensures, c .before .before .before .report-of .ensures, c .before .before .before .before .leg-at .ensures)))
+    (tie.spec (search needs) (search needs) (search needs) (search needs) (search needs) (search needs)
+    (λ c. let r = c .before .before .before in simp (c .go-on .ensures, c .before .charge .ensures, c .before .before .no-charge .ensures, r .report-on .ensures, r .before .report-of .ensures, r .before .before .before .leg-at .ensures)))

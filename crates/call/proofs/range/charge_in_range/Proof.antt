@@ -6,6 +6,11 @@ use Rattle.call.proofs.range.charge_in_range.Tie as tie
 pub charge-in-range-spec : {M : Type 1} → statement M
 charge-in-range-spec =
     tie.close
-    (tie.spec (search needs) (search needs) (search needs) (search needs) (search needs) (λ c. search needs)
-    (λ c. simp (c .is-period .ensures, c .before .before .c .given .1))
-    (λ c. simp (c .before .before .is-period2 .ensures, c .before .before .before .before .c2 .given .1)))
+    (tie.spec (search needs)
+    (search needs)
+    (search needs)
+    (search needs)
+    (search needs)
+    (λ c. simp (c .before .before .enum-told .given .1))
+    (λ c. simp (c .before .is-period .ensures, c .before .before .enum-told2 .given .1))
+    (λ c. simp (c .before .before .is-period2 .ensures, c .before .before .before .enum-told3 .given .1)))

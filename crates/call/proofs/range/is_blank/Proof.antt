@@ -9,7 +9,8 @@ unfolding isBlank
 returns c =
     let u = c .before .before .before .before in
     let h = u .before .before in
-    rw (c .is-no-number .ensures, c .before .is-release .ensures, u .is-unarmed .ensures, h .is-held .ensures, h .before .is-unused2 .ensures, h .before .before .is-unused .ensures, h .before .before .before .is-analysing .ensures)
+    let a = h .before .before .before in
+    rw (c .is-no-number .ensures, c .before .is-release .ensures, u .is-unarmed .ensures, h .is-held .ensures, h .before .is-unused2 .ensures, h .before .before .is-unused .ensures, a .is-analysing .ensures, a .before .leg-at2 .ensures, a .before .before .leg-at .ensures)
 
 pub is-blank-spec : {M : Type 1} → statement M
-is-blank-spec = tie.close (tie.spec (search needs) (search needs) (search needs) (search needs) (search needs) (search needs) (search needs) returns)
+is-blank-spec = tie.close (tie.spec (search needs) (search needs) (search needs) (search needs) (search needs) (search needs) (search needs) (search needs) (search needs) returns)

@@ -4,4 +4,8 @@ use Rattle.call.proofs.range.is_unused.Statement.{statement}
 use Rattle.call.proofs.range.is_unused.Tie as tie
 
 pub is-unused-spec : {M : Type 1} → statement M
-is-unused-spec = tie.close (tie.spec (search needs) (search needs) (λ c. rw (c .is-pending .ensures, c .before .is-present .ensures)))
+is-unused-spec =
+    tie.close
+    (tie.spec (search needs)
+    (search needs)
+    (λ c. simp (c .before .before .is-pending .ensures, c .before .before .before .is-present .ensures)))

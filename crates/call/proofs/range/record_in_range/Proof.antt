@@ -8,10 +8,12 @@ returns : tie.Need-returns
 unfolding inRangeOf
 returns c =
     let l = c .before .before .before .before in
-    simp (c .number-in-range .ensures, c .before .is-default-timer .ensures, c .before .before .is-timer .ensures, c .before .before .before .armings-in-range .ensures, l .is-clock-reading .ensures, l .before .hold-in-range .ensures, l .before .before .charge-in-range2 .ensures, l .before .before .before .charge-in-range .ensures)
+    let g = l .before .before .before in
+    let m = g .before .before .before in
+    simp (c .number-in-range .ensures, c .before .is-default-timer .ensures, c .before .before .is-timer .ensures, c .before .before .before .armings-in-range .ensures, l .is-clock-reading .ensures, l .before .hold-in-range .ensures, l .before .before .charge-in-range2 .ensures, g .charge-in-range .ensures, m .leg-at2 .ensures, m .before .leg-at .ensures)
 
 pub record-in-range-spec : {M : Type 1} → statement M
 record-in-range-spec =
     tie.close
-    (tie.spec (search needs) (search needs) (search needs) (search needs) (search needs)
+    (tie.spec (search needs) (search needs) (search needs) (search needs) (search needs) (search needs) (search needs)
     (search needs) (search needs) (search needs) returns)

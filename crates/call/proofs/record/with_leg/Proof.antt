@@ -6,6 +6,11 @@ use Rattle.call.proofs.record.with_leg.Tie as tie
 pub with-leg-spec : {M : Type 1} → statement M
 with-leg-spec =
     tie.close
-    (tie.spec (search needs) (search needs)
-    (λ c. simp (c .enum-told .given .1))
-    (λ c. simp (c .enum-told2 .given .1)))
+    (tie.spec (search needs)
+    (search needs)
+    (search needs)
+    (search needs)
+    (search needs)
+    (search needs)
+    (λ c. simp (c .with-legs .ensures, c .before .leg-at .ensures, c .before .before .enum-told .given .1))
+    (λ c. simp (c .with-legs2 .ensures, c .before .leg-at2 .ensures, c .before .before .enum-told2 .given .1)))

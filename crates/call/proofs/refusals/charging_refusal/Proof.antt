@@ -7,4 +7,4 @@ pub charging-refusal-spec : {M : Type 1} → statement M
 charging-refusal-spec =
     tie.close
     (tie.spec (search needs) (search needs) (search needs) (search needs) (search needs) (search needs)
-    (λ c. let p = c .before .before .before in simp (c .refuse-if2 .ensures, c .before .refuse-if .ensures, c .before .before .is-pending .ensures, p .is-present2 .ensures, p .before .is-present .ensures, p .before .before .leg-at .ensures)))
+    (λ c. let p = c .before .before .before in simp (c .refuse-if2 .ensures, c .before .refuse-if .ensures, c .before .before .is-pending .ensures, p .is-present2 .ensures, p .before .is-present .ensures, p .before .before .before .leg-at .ensures)))

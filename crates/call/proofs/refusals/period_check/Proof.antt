@@ -6,6 +6,11 @@ use Rattle.call.proofs.refusals.period_check.Tie as tie
 pub period-check-spec : {M : Type 1} → statement M
 period-check-spec =
     tie.close
-    (tie.spec (search needs) (search needs) (search needs) (search needs) (search needs) (λ c. search needs)
-    (λ c. search needs)
-    (λ c. simp (c .refuse-if .ensures, c .before .is-before .ensures, c .before .before .before .c .given .1)))
+    (tie.spec (search needs)
+    (search needs)
+    (search needs)
+    (search needs)
+    (search needs)
+    (λ c. simp (c .enum-told .given .1))
+    (λ c. simp (c .enum-told2 .given .1))
+    (λ c. simp (c .refuse-if .ensures, c .before .is-before .ensures, c .before .before .enum-told3 .given .1)))

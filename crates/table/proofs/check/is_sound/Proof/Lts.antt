@@ -249,7 +249,7 @@ abbrev b38 : Body
 b38 = seq (assign (place 6 []) (rvOpd (copy (place 12 [])))) (seq (call "table::check::call_of" ((copy (place 6 [])) ∷ []) (place 13 [])) (seq (assign (place 10 []) (op2 (mul unsigned) (copy (place 3 [])) (int w64 4))) (seq (assign (place 14 []) (Syntax.addrOf (place 2 []))) (seq (assign (place 15 []) (op2 offset (copy (place 14 [])) (copy (place 10 [])))) (seq (assign (place 15 ((deref (tyInt w32)) ∷ [])) (rvOpd (copy (place 13 [])))) b32)))))
 
 abbrev b41 : Body
-b41 = seq (assign (place 10 []) (op2 (mul unsigned) (copy (place 5 [])) (int w64 136))) (seq (assign (place 11 []) (op2 offset (copy (place 1 ((field 0) ∷ []))) (copy (place 10 [])))) (seq (assign (place 12 []) (rvOpd (copy (place 11 ((deref Elem.ty) ∷ []))))) b38))
+b41 = seq (assign (place 10 []) (op2 (mul unsigned) (copy (place 5 [])) (int w64 96))) (seq (assign (place 11 []) (op2 offset (copy (place 1 ((field 0) ∷ []))) (copy (place 10 [])))) (seq (assign (place 12 []) (rvOpd (copy (place 11 ((deref Elem.ty) ∷ []))))) b38))
 
 abbrev b43 : Body
 b43 = seq (assign (place 9 []) (op2 (lt unsigned) (copy (place 5 [])) (int w64 64))) (seq b14 b41)
@@ -574,13 +574,13 @@ module _ (claims· : Claims) where
   s12 = n-room T15 9 tyBool
 
   abbrev s14 : Asks T13 T19
-  s14 = k-op2 T13 (mul unsigned) (oAt 5 (tyInt w64) (valS (sInt w64))) (oInt w64 136) 10 (sc-here (sInt w64)) (sInt w64 .of)
+  s14 = k-op2 T13 (mul unsigned) (oAt 5 (tyInt w64) (valS (sInt w64))) (oInt w64 96) 10 (sc-here (sInt w64)) (sInt w64 .of)
 
   abbrev s15 : Asks T19 T20
   s15 = k-op2 T19 offset (oFld 1 ((field 0) ∷ []) ty·0 0 ptrVal) (oAt 10 (tyInt w64) (valS (sInt w64))) 11 (sc-here sPtr) (sPtr .of)
 
   abbrev s16 : Both T20 T21
-  s16 = Move.k-shs-copy-out Elem.row T20 1 11 12 0 ty·0 off (whole Elem.row) (Shared.bySize 136) (λ u. u .1 .1 .1 .1 .1 .0) (λ x. x) Elem.past (λ x. Unit) (λ x. x) λ x. x
+  s16 = Move.k-shs-copy-out Elem.row T20 1 11 12 0 ty·0 off (whole Elem.row) (Shared.bySize 96) (λ u. u .1 .1 .1 .1 .1 .0) (λ x. x) Elem.past (λ x. Unit) (λ x. x) λ x. x
 
   abbrev s17 : Mo T21 → Mo T22
   s17 = n-room T21 10 (tyInt w64)
@@ -895,7 +895,7 @@ module _ (claims· : Claims) where
           d54 = Joins.pre W (Lifetime.g-begin 𝓤 H A W E G13 1 (tt, (tt, (tt, (tt, (tt, (tt, (tt, (tt, (tt, (tt, (tt, (tt, (tt, (tt, (tt, (tt, (tt, (tt, tt))))))))))))))))))) (then W (Share.t-arr-shareᵖ 𝓤 H A W E 𝓣 (rtF (fInt w32)) G43 2 16 64 1 ty·3 (λ x. x) (λ u. u .1 .1 .1 .0) (as-is 𝓤 H A (arrF (rtF (fInt w32)) 64 0)) (room-gone 𝓤 H A ty·3) refl (λ b o. tt) (lit< tt, lit< tt)) (then W (t-sl-aggregate 𝓤 H A W E (rtF (fInt w32)) 𝓣 (asShr (rtF (fInt w32))) G44 16 17 1 ty·3 ty·4 (λ x. x) (oAt 3 (tyInt w64) (valS (sInt w64))) (as-is 𝓤 H A (ssptr (rtF (fInt w32)) ty·3 1)) (room-gone 𝓤 H A ty·1) (reads-sc 𝓤 H A W (sInt w64), refl) refl refl λ b o k. tt) (then W (t-call-plain 𝓤 H A W 𝓣 1 ps·3 r (claims· .6) (claims· .7) "table::check::is_once" (known .3) E (λ pos β. β) G45 (record { pos = 17; ty = tyRef erased imm (tyInt w32); ref = λ x. x }, tt) 8 (1 ∷ []) (sub-id 𝓤 H A W (G45 .slots)) (spares-sslice 𝓤 H A W (rtF (fInt w32)) ty·4 1, Shared.reads-sslice 𝓤 H A W (rtF (fInt w32)) ty·4 1, refl, tt) (room-gone 𝓤 H A tyBool) (tt, tt) refl) (Joins.pre W (g-room 𝓤 H A W E G46 17 ty·1 (Shared.room-sslice 𝓤 H A W (rtF (fInt w32)) ty·4 1)) (Joins.pre W (Lifetime.g-end 𝓤 H A W E G47 1 refl) (Joins.pre W (Share.g-back-arr-shrᵖ 𝓤 H A W E (rtF (fInt w32)) G48 2 64 1 (λ x. x) (as-is 𝓤 H A (arr-shrP (rtF (fInt w32)) 64 1)) refl) (Joins.pre W (Lifetime.g-forget 𝓤 H A W E G49 1 dead refl) (Joins.pre W (g-room 𝓤 H A W E G50 2 ty·2 (Init.room-arr 𝓤 H A W (rtF (fInt w32)) 64 0 64 refl)) (then W (t-op2 𝓤 H A W E 𝓣 G51 bitAnd (oAt 4 tyBool (valS sBool)) (oAt 8 tyBool (valS sBool)) 0 (sc-here sBool) tyBool (valS sBool) (sBool .of) (reads-sc 𝓤 H A W sBool, refl) (reads-sc 𝓤 H A W sBool, refl) (room-gone 𝓤 H A tyBool) (holds-sc 𝓤 H A W sBool) refl (λ u. refl) λ u. tt) (Joins.pre W (g-room 𝓤 H A W E G52 3 (tyInt w64) (room-sc 𝓤 H A W (sInt w64))) (Joins.pre W (g-room 𝓤 H A W E G53 4 tyBool (room-sc 𝓤 H A W sBool)) (Joins.pre W (g-room 𝓤 H A W E G54 5 (tyInt w64) (room-sc 𝓤 H A W (sInt w64))) (Joins.pre W (g-room 𝓤 H A W E G55 8 tyBool (room-sc 𝓤 H A W sBool)) (Typed.t-return 𝓤 H A W 𝓣 E Δ0 tt))))))))))))))
 
           d55 : Does G13 b55 Δ0 (at55 bs)
-          d55 = t-seq 𝓤 H A W 𝓣 E G13 G13 b45 b54 Δ0 (at39 bs) at54 (Typed.t-block 𝓤 H A W 𝓣 E G13 b44 Δ2 (at38 bs) (Typed.t-loop-by 𝓤 H A W 𝓣 E G13 b43 Δ3 put0 held·0 left·0 (at37 bs) (then W (t-op2 𝓤 H A W E 𝓣 G13 (lt unsigned) (oAt 5 (tyInt w64) (valS (sInt w64))) (oInt w64 64) 9 (sc-here sBool) tyBool (valS sBool) (sBool .of) (reads-sc 𝓤 H A W (sInt w64), refl) tt (room-gone 𝓤 H A tyBool) (holds-sc 𝓤 H A W sBool) refl (λ u. refl) λ u. tt) (t-seq 𝓤 H A W 𝓣 E G15 G13 b14 b41 Δ4 at11 (at35 bs) (t-cond 𝓤 H A W E 𝓣 G15 9 (λ x. x) b5 b13 Δ5 at8 at10 (reads-sc 𝓤 H A W sBool) refl (Joins.pre W (g-room 𝓤 H A W E G15 9 tyBool (room-sc 𝓤 H A W sBool)) (Typed.t-skip 𝓤 H A W 𝓣 E Δ5 tt)) (Joins.pre W (g-room 𝓤 H A W E G15 9 tyBool (room-sc 𝓤 H A W sBool)) (Typed.t-exit 𝓤 H A W 𝓣 E 1 Δ5 tt))) (then W (t-op2 𝓤 H A W E 𝓣 G13 (mul unsigned) (oAt 5 (tyInt w64) (valS (sInt w64))) (oInt w64 136) 10 (sc-here (sInt w64)) (tyInt w64) (valS (sInt w64)) (sInt w64 .of) (reads-sc 𝓤 H A W (sInt w64), refl) tt (room-gone 𝓤 H A (tyInt w64)) (holds-sc 𝓤 H A W (sInt w64)) refl (λ u. refl) λ u. tt) (then W (t-op2 𝓤 H A W E 𝓣 (cx (_++_ t12 t1) ls·2) offset (oFld 1 ((field 0) ∷ []) ty·0 0 ptrVal) (oAt 10 (tyInt w64) (valS (sInt w64))) 11 (sc-here sPtr) tyPtr (valS sPtr) (sPtr .of) (Shared.reads-sslice-ptr 𝓤 H A W Elem.row ty·0 0 0 refl, refl) (reads-sc 𝓤 H A W (sInt w64), refl) (room-gone 𝓤 H A tyPtr) (holds-sc 𝓤 H A W sPtr) refl (λ u. refl) λ u. tt) (then W (Move.t-shs-copy-out 𝓤 H A W E Elem.row 𝓣 refl (Elem.copies .copy 𝓤 H A W) (Copies.halved 𝓤 H A W Elem.copies) (λ ρ. Unit) G20 1 11 12 0 ty·0 ℓ·0 Elem.ty Elem.ty (whole Elem.row) (Shared.bySize 136) (λ u. u .1 .1 .1 .1 .1 .0) (λ x. x) Elem.past (λ x. Unit) (λ x. x) (λ x. x) (λ i o. Elements.at-mul o 136 i) refl refl (Own.told-none 𝓤 H A (G20 .slots)) (DerefMove.learns-nothing 𝓤 H A Elem.row) (as-is 𝓤 H A (sslice Elem.row ty·0 0)) (as-is 𝓤 H A (sc-here sPtr)) (room-gone 𝓤 H A Elem.ty) (Joins.makes W Elem.row refl) refl tt refl refl) d32))))))) d54
+          d55 = t-seq 𝓤 H A W 𝓣 E G13 G13 b45 b54 Δ0 (at39 bs) at54 (Typed.t-block 𝓤 H A W 𝓣 E G13 b44 Δ2 (at38 bs) (Typed.t-loop-by 𝓤 H A W 𝓣 E G13 b43 Δ3 put0 held·0 left·0 (at37 bs) (then W (t-op2 𝓤 H A W E 𝓣 G13 (lt unsigned) (oAt 5 (tyInt w64) (valS (sInt w64))) (oInt w64 64) 9 (sc-here sBool) tyBool (valS sBool) (sBool .of) (reads-sc 𝓤 H A W (sInt w64), refl) tt (room-gone 𝓤 H A tyBool) (holds-sc 𝓤 H A W sBool) refl (λ u. refl) λ u. tt) (t-seq 𝓤 H A W 𝓣 E G15 G13 b14 b41 Δ4 at11 (at35 bs) (t-cond 𝓤 H A W E 𝓣 G15 9 (λ x. x) b5 b13 Δ5 at8 at10 (reads-sc 𝓤 H A W sBool) refl (Joins.pre W (g-room 𝓤 H A W E G15 9 tyBool (room-sc 𝓤 H A W sBool)) (Typed.t-skip 𝓤 H A W 𝓣 E Δ5 tt)) (Joins.pre W (g-room 𝓤 H A W E G15 9 tyBool (room-sc 𝓤 H A W sBool)) (Typed.t-exit 𝓤 H A W 𝓣 E 1 Δ5 tt))) (then W (t-op2 𝓤 H A W E 𝓣 G13 (mul unsigned) (oAt 5 (tyInt w64) (valS (sInt w64))) (oInt w64 96) 10 (sc-here (sInt w64)) (tyInt w64) (valS (sInt w64)) (sInt w64 .of) (reads-sc 𝓤 H A W (sInt w64), refl) tt (room-gone 𝓤 H A (tyInt w64)) (holds-sc 𝓤 H A W (sInt w64)) refl (λ u. refl) λ u. tt) (then W (t-op2 𝓤 H A W E 𝓣 (cx (_++_ t12 t1) ls·2) offset (oFld 1 ((field 0) ∷ []) ty·0 0 ptrVal) (oAt 10 (tyInt w64) (valS (sInt w64))) 11 (sc-here sPtr) tyPtr (valS sPtr) (sPtr .of) (Shared.reads-sslice-ptr 𝓤 H A W Elem.row ty·0 0 0 refl, refl) (reads-sc 𝓤 H A W (sInt w64), refl) (room-gone 𝓤 H A tyPtr) (holds-sc 𝓤 H A W sPtr) refl (λ u. refl) λ u. tt) (then W (Move.t-shs-copy-out 𝓤 H A W E Elem.row 𝓣 refl (Elem.copies .copy 𝓤 H A W) (Copies.halved 𝓤 H A W Elem.copies) (λ ρ. Unit) G20 1 11 12 0 ty·0 ℓ·0 Elem.ty Elem.ty (whole Elem.row) (Shared.bySize 96) (λ u. u .1 .1 .1 .1 .1 .0) (λ x. x) Elem.past (λ x. Unit) (λ x. x) (λ x. x) (λ i o. Elements.at-mul o 96 i) refl refl (Own.told-none 𝓤 H A (G20 .slots)) (DerefMove.learns-nothing 𝓤 H A Elem.row) (as-is 𝓤 H A (sslice Elem.row ty·0 0)) (as-is 𝓤 H A (sc-here sPtr)) (room-gone 𝓤 H A Elem.ty) (Joins.makes W Elem.row refl) refl tt refl refl) d32))))))) d54
 
           d62 : Does G2 b61 Δ0 (at62 bs)
           d62 = then W (t-op2 𝓤 H A W E 𝓣 G2 ne (oAt 7 (tyInt w64) (valS (sInt w64))) (oInt w64 64) 8 (sc-here sBool) tyBool (valS sBool) (sBool .of) (reads-sc 𝓤 H A W (sInt w64), refl) tt (room-gone 𝓤 H A tyBool) (holds-sc 𝓤 H A W sBool) refl (λ u. refl) λ u. tt) (t-seq 𝓤 H A W 𝓣 E G3 G0 b6 b59 Δ0 at6 (at60 bs) (Joins.pre W (g-room 𝓤 H A W E G3 7 (tyInt w64) (room-sc 𝓤 H A W (sInt w64))) (t-cond 𝓤 H A W E 𝓣 G5 8 (λ x. x) b4 b5 Δ1 at2 at4 (reads-sc 𝓤 H A W sBool) refl (Joins.pre W (g-room 𝓤 H A W E G5 8 tyBool (room-sc 𝓤 H A W sBool)) (then W (t-use 𝓤 H A W E 𝓣 G0 (oBool Bool'.false) 0 (sc-here sBool) tyBool (valS sBool) (sBool .of) tt (room-gone 𝓤 H A tyBool) (holds-sc 𝓤 H A W sBool) refl (λ u. refl) λ u. tt) (Typed.t-return 𝓤 H A W 𝓣 E Δ1 tt))) (Joins.pre W (g-room 𝓤 H A W E G5 8 tyBool (room-sc 𝓤 H A W sBool)) (Typed.t-skip 𝓤 H A W 𝓣 E Δ1 tt)))) (then W (Repeat.t-repeat 𝓤 H A W E 𝓣 (rtF (fInt w32)) (Plain'.uint-lawful 𝓤 H A W w32) (Copies.cRf (fInt w32) .copy 𝓤 H A W) (Plain'.uint-makes 𝓤 H A W w32) 64 G0 2 (oInt w32 0) (λ m. 0) (room-gone 𝓤 H A ty·2) tt refl λ m wa. (refl, lit< tt)) (Joins.pre W (AtSlots.g-as-by 𝓤 H A W E (λ ρ. Unit) G9 2 (arrF (rtF (fInt w32)) 64 0) (λ x. x) (Own.told-none 𝓤 H A (G9 .slots)) λ ρ told. Repeat.whole-arr 𝓤 H A W (rtF (fInt w32)) 64 tt ρ) (then W (t-use 𝓤 H A W E 𝓣 (cx (_++_ t7 t1) ls·2) (oInt w64 0) 3 (sc-here (sInt w64)) (tyInt w64) (valS (sInt w64)) (sInt w64 .of) tt (room-gone 𝓤 H A (tyInt w64)) (holds-sc 𝓤 H A W (sInt w64)) refl (λ u. refl) λ u. tt) (then W (t-use 𝓤 H A W E 𝓣 (cx (_++_ t8 t1) ls·2) (oBool Bool'.true) 4 (sc-here sBool) tyBool (valS sBool) (sBool .of) tt (room-gone 𝓤 H A tyBool) (holds-sc 𝓤 H A W sBool) refl (λ u. refl) λ u. tt) (then W (t-use 𝓤 H A W E 𝓣 (cx (_++_ t9 t1) ls·2) (oInt w64 0) 5 (sc-here (sInt w64)) (tyInt w64) (valS (sInt w64)) (sInt w64 .of) tt (room-gone 𝓤 H A (tyInt w64)) (holds-sc 𝓤 H A W (sInt w64)) refl (λ u. refl) λ u. tt) d55))))))

@@ -240,19 +240,19 @@ abbrev hs : List Home
 hs = valueLocal ∷ valueLocal ∷ valueLocal ∷ valueLocal ∷ valueLocal ∷ valueLocal ∷ valueLocal ∷ valueLocal ∷ valueLocal ∷ valueLocal ∷ valueLocal ∷ valueLocal ∷ valueLocal ∷ valueLocal ∷ valueLocal ∷ []
 
 abbrev b5 : Body
-b5 = assign (place 11 []) (op2 (mul unsigned) (copy (place 6 [])) (int w64 136))
+b5 = assign (place 11 []) (op2 (mul unsigned) (copy (place 6 [])) (int w64 96))
 
 abbrev b19 : Body
 b19 = seq b5 (seq (assign (place 14 []) (op2 offset (copy (place 1 ((field 0) ∷ []))) (copy (place 11 [])))) (seq (assign (place 14 ((deref Elem.ty) ∷ [])) (rvOpd (copy (place 13 [])))) (seq (call "table::serve::answer_of" ((copy (place 8 [])) ∷ []) (place 0 [])) return)))
 
-abbrev b22 : Body
-b22 = seq (assign (place 7 []) (rvOpd (copy (place 13 [])))) (seq (call "table::serve::act" ((copy (place 7 [])) ∷ (copy (place 5 [])) ∷ (copy (place 2 [])) ∷ (copy (place 3 [])) ∷ []) (place 8 [])) (seq (call "table::serve::slot_after" ((copy (place 7 [])) ∷ (copy (place 4 [])) ∷ (copy (place 8 [])) ∷ []) (place 13 [])) b19))
+abbrev b23 : Body
+b23 = seq (assign (place 13 []) (rvOpd (copy (place 12 ((deref Elem.ty) ∷ []))))) (seq (assign (place 7 []) (rvOpd (copy (place 13 [])))) (seq (call "table::serve::act" ((copy (place 7 [])) ∷ (copy (place 5 [])) ∷ (copy (place 2 [])) ∷ (copy (place 3 [])) ∷ []) (place 8 [])) (seq (call "table::serve::slot_after" ((copy (place 7 [])) ∷ (copy (place 4 [])) ∷ (copy (place 8 [])) ∷ []) (place 13 [])) b19)))
 
-abbrev b27 : Body
-b27 = seq (call "table::lookup::locate" ((copy (place 10 [])) ∷ (copy (place 4 [])) ∷ []) (place 5 [])) (seq (call "table::lookup::slot_of" ((copy (place 5 [])) ∷ []) (place 6 [])) (seq b5 (seq (assign (place 12 []) (op2 offset (copy (place 1 ((field 0) ∷ []))) (copy (place 11 [])))) (seq (assign (place 13 []) (rvOpd (copy (place 12 ((deref Elem.ty) ∷ []))))) b22))))
+abbrev b28 : Body
+b28 = seq (assign (place 10 []) (aggregate ((copy (place 9 [])) ∷ (copy (place 1 ((field 1) ∷ []))) ∷ []))) (seq (call "table::lookup::locate" ((copy (place 10 [])) ∷ (copy (place 4 [])) ∷ []) (place 5 [])) (seq (call "table::lookup::slot_of" ((copy (place 5 [])) ∷ []) (place 6 [])) (seq b5 (seq (assign (place 12 []) (op2 offset (copy (place 1 ((field 0) ∷ []))) (copy (place 11 [])))) b23))))
 
 abbrev b30 : Body
-b30 = seq (call "forms::item::call_in" ((copy (place 2 [])) ∷ []) (place 4 [])) (seq (assign (place 9 []) (addrOf (place 1 ((field 0) ∷ (deref Elem.ty) ∷ [])))) (seq (assign (place 10 []) (aggregate ((copy (place 9 [])) ∷ (copy (place 1 ((field 1) ∷ []))) ∷ []))) b27))
+b30 = seq (call "forms::item::call_in" ((copy (place 2 [])) ∷ []) (place 4 [])) (seq (assign (place 9 []) (addrOf (place 1 ((field 0) ∷ (deref Elem.ty) ∷ [])))) b28)
 
 abbrev body : Body
 body = b30
@@ -466,13 +466,13 @@ module _ (claims· : Claims) where
   s11 = callB ps·2 r·2 (claims· .4) (claims· .5) T11 args·2 6 [] (tyInt w64)
 
   abbrev s12 : Asks T13 T14
-  s12 = k-op2 T13 (mul unsigned) (oAt 6 (tyInt w64) (valS (sInt w64))) (oInt w64 136) 11 (sc-here (sInt w64)) (sInt w64 .of)
+  s12 = k-op2 T13 (mul unsigned) (oAt 6 (tyInt w64) (valS (sInt w64))) (oInt w64 96) 11 (sc-here (sInt w64)) (sInt w64 .of)
 
   abbrev s13 : Asks T14 T15
   s13 = k-op2 T14 offset (oFld 1 ((field 0) ∷ []) ty·1 0 ptrVal) (oAt 11 (tyInt w64) (valS (sInt w64))) 12 (sc-here sPtr) (sPtr .of)
 
   abbrev s14 : Both T15 T16
-  s14 = Move.k-sl-copy-out Elem.row T15 1 12 13 0 ty·1 off (whole Elem.row) (bySize 136) (λ u. u .1 .1 .1 .1 .1 .1 .0) (λ x. x) Elem.past (λ x. Unit) (λ x. x) λ x. x
+  s14 = Move.k-sl-copy-out Elem.row T15 1 12 13 0 ty·1 off (whole Elem.row) (bySize 96) (λ u. u .1 .1 .1 .1 .1 .1 .0) (λ x. x) Elem.past (λ x. Unit) (λ x. x) λ x. x
 
   abbrev s15 : Mo T16 → Mo T17
   s15 = n-room T16 11 (tyInt w64)
@@ -499,13 +499,13 @@ module _ (claims· : Claims) where
   s22 = n-room T23 7 Elem.ty
 
   abbrev s23 : Asks T24 T25
-  s23 = k-op2 T24 (mul unsigned) (oAt 6 (tyInt w64) (valS (sInt w64))) (oInt w64 136) 11 (sc-here (sInt w64)) (sInt w64 .of)
+  s23 = k-op2 T24 (mul unsigned) (oAt 6 (tyInt w64) (valS (sInt w64))) (oInt w64 96) 11 (sc-here (sInt w64)) (sInt w64 .of)
 
   abbrev s24 : Asks T25 T26
   s24 = k-op2 T25 offset (oFld 1 ((field 0) ∷ []) ty·1 0 ptrVal) (oAt 11 (tyInt w64) (valS (sInt w64))) 14 (sc-here sPtr) (sPtr .of)
 
   abbrev s25 : Asks T26 T26
-  s25 = Move.k-sl-set-from Elem.row T26 1 14 13 0 ty·1 off (whole Elem.row) (bySize 136) (λ u. u .1 .1 .1 .1 .1 .1 .0) (λ x. x) (λ x. x) (λ x. x) λ x. x
+  s25 = Move.k-sl-set-from Elem.row T26 1 14 13 0 ty·1 off (whole Elem.row) (bySize 96) (λ u. u .1 .1 .1 .1 .1 .1 .0) (λ x. x) (λ x. x) (λ x. x) λ x. x
 
   abbrev s26 : Mo T26 → Mo T28
   s26 = n-room T26 11 (tyInt w64)
@@ -543,20 +543,20 @@ module _ (claims· : Claims) where
       abbrev at13 : TF T21 O0
       at13 = λ Ψ. pass T21 T22 s20 (both s21 (at11 Ψ))
 
-      abbrev at18 : TF T16 O0
-      at18 = λ Ψ. pass T16 T17 s15 (pass T17 T18 s16 (pass T18 T19 s17 (pass T19 T20 s18 (both s19 (at13 Ψ)))))
+      abbrev at19 : TF T15 O0
+      at19 = λ Ψ. both s14 (pass T16 T17 s15 (pass T17 T18 s16 (pass T18 T19 s17 (pass T19 T20 s18 (both s19 (at13 Ψ))))))
 
       abbrev at21 : TF T13 O0
-      at21 = λ Ψ. ask s12 (ask s13 (both s14 (at18 Ψ)))
+      at21 = λ Ψ. ask s12 (ask s13 (at19 Ψ))
 
       abbrev at26 : TF T8 O0
       at26 = λ Ψ. pass T8 T9 s7 (pass T9 T11 s9 (both s11 (at21 Ψ)))
 
-      abbrev at27 : TF T7 O0
-      at27 = λ Ψ. both s6 (at26 Ψ)
+      abbrev at28 : TF T6 O0
+      at28 = λ Ψ. ask s5 (both s6 (at26 Ψ))
 
       abbrev at30 : TF T4 O0
-      at30 = λ Ψ. give s4 (ask s5 (at27 Ψ))
+      at30 = λ Ψ. give s4 (at28 Ψ)
 
       abbrev at33 : TF T0 O0
       at33 = λ Ψ. give s0 (give s1 (both s2 (at30 Ψ)))
@@ -590,14 +590,11 @@ module _ (claims· : Claims) where
         abbrev G0 : Cx
         G0 = cx t0 ls·1
 
+        abbrev G6 : Cx
+        G6 = cx (en·6 ∷ (1, mslice-owedS Elem.row ty·1 0 3 ℓ·0) ∷ en·3 ∷ en·2 ∷ en·1 ∷ en·15 ∷ en·13 ∷ en·9 ∷ en·14 ∷ (9, ssptr Elem.row ty·3 3) ∷ en·11 ∷ en·0 ∷ es·6) ls·0
+
         abbrev G7 : Cx
         G7 = cx (en·6 ∷ (1, mslice-owedS Elem.row ty·1 0 3 ℓ·0) ∷ en·3 ∷ en·2 ∷ en·1 ∷ en·15 ∷ es·1) ls·0
-
-        abbrev G8 : Cx
-        G8 = cx (en·6 ∷ (1, mslice-owedS Elem.row ty·1 0 3 ℓ·0) ∷ en·3 ∷ en·2 ∷ en·1 ∷ en·16 ∷ es·1) ls·0
-
-        abbrev G10 : Cx
-        G10 = cx g6 (off ∷ ℓ·1 ∷ ℓ·2 ∷ dead ∷ [])
 
         abbrev G11 : Cx
         G11 = cx t7 (ℓ·0 ∷ ℓ·1 ∷ ℓ·2 ∷ dead ∷ [])
@@ -605,23 +602,26 @@ module _ (claims· : Claims) where
         abbrev G12 : Cx
         G12 = cx t7 ls·1
 
-        abbrev G13 : Cx
-        G13 = cx t8 ls·1
-
-        abbrev G14 : Cx
-        G14 = cx t9 ls·1
-
         abbrev G15 : Cx
         G15 = cx t10 ls·1
 
         abbrev G16 : Cx
         G16 = cx t11 ls·1
 
+        abbrev G17 : Cx
+        G17 = cx t12 ls·1
+
         abbrev G18 : Cx
         G18 = cx t13 ls·1
 
+        abbrev G19 : Cx
+        G19 = cx t14 ls·1
+
         abbrev G20 : Cx
         G20 = cx t15 ls·1
+
+        abbrev G21 : Cx
+        G21 = cx t16 ls·1
 
         abbrev G22 : Cx
         G22 = cx t17 ls·1
@@ -646,16 +646,16 @@ module _ (claims· : Claims) where
           Does = Typed 𝓤 H A 𝓣 E
 
           d11 : Does G23 b19 Δ0 at11
-          d11 = Joins.pre W (g-room 𝓤 H A W E G23 7 Elem.ty (room-whole 𝓤 H A W Elem.row Elem.ty refl)) (then W (t-op2 𝓤 H A W E 𝓣 (cx t19 ls·1) (mul unsigned) (oAt 6 (tyInt w64) (valS (sInt w64))) (oInt w64 136) 11 (sc-here (sInt w64)) (tyInt w64) (valS (sInt w64)) (sInt w64 .of) (reads-sc 𝓤 H A W (sInt w64), refl) tt (room-gone 𝓤 H A (tyInt w64)) (holds-sc 𝓤 H A W (sInt w64)) refl (λ u. refl) λ u. tt) (then W (t-op2 𝓤 H A W E 𝓣 (cx t20 ls·1) offset (oFld 1 ((field 0) ∷ []) ty·1 0 ptrVal) (oAt 11 (tyInt w64) (valS (sInt w64))) 14 (sc-here sPtr) tyPtr (valS sPtr) (sPtr .of) (reads-mslice-ptr 𝓤 H A W Elem.row ty·1 0 0 refl, refl) (reads-sc 𝓤 H A W (sInt w64), refl) (room-gone 𝓤 H A tyPtr) (holds-sc 𝓤 H A W sPtr) refl (λ u. refl) λ u. tt) (then W (Move.t-sl-set-from 𝓤 H A W E Elem.row 𝓣 refl (λ ρ. Unit) G26 1 14 13 0 ty·1 ℓ·0 Elem.ty Elem.ty (whole Elem.row) (bySize 136) (λ u. u .1 .1 .1 .1 .1 .1 .0) (λ x. x) (λ x. x) (λ x. x) (λ x. x) (λ i o. at-mul o 136 i) refl refl (Own.told-none 𝓤 H A (G26 .slots)) (as-is 𝓤 H A (mslice Elem.row ty·1 0)) (as-is 𝓤 H A (sc-here sPtr)) (yields W Elem.row refl Elem.copies) refl tt refl refl) (Joins.pre W (g-room 𝓤 H A W E G26 11 (tyInt w64) (room-sc 𝓤 H A W (sInt w64))) (Joins.pre W (g-room 𝓤 H A W E (cx t22 ls·1) 13 Elem.ty (room-whole 𝓤 H A W Elem.row Elem.ty refl)) (Joins.pre W (g-room 𝓤 H A W E (cx t23 ls·1) 14 tyPtr (room-sc 𝓤 H A W sPtr)) (then W (t-call-plain 𝓤 H A W 𝓣 0 ps·5 r·5 (claims· .10) (claims· .11) "table::serve::answer_of" (known .5) E (λ pos β. β) G30 (record { pos = 8; st = []; d = 0; at = λ x. x }, tt) 0 [] (sub-id 𝓤 H A W (G30 .slots)) ((yields W Stepped·row refl (cStruct Stepped.the-type Laws'.the-laws Laws'.the-copy), refl), tt) (room-gone 𝓤 H A Laws.mir) tt refl) (Joins.pre W (g-room 𝓤 H A W E (cx t25 ls·1) 4 (tyInt w32) (room-sc 𝓤 H A W (sInt w32))) (Joins.pre W (g-room 𝓤 H A W E (cx t26 ls·1) 6 (tyInt w64) (room-sc 𝓤 H A W (sInt w64))) (Joins.pre W (g-room 𝓤 H A W E (cx t27 ls·1) 8 Laws'.mir (room-whole 𝓤 H A W Stepped·row Laws'.mir refl)) (t-return 𝓤 H A W 𝓣 E Δ0 tt)))))))))))
+          d11 = Joins.pre W (g-room 𝓤 H A W E G23 7 Elem.ty (room-whole 𝓤 H A W Elem.row Elem.ty refl)) (then W (t-op2 𝓤 H A W E 𝓣 (cx t19 ls·1) (mul unsigned) (oAt 6 (tyInt w64) (valS (sInt w64))) (oInt w64 96) 11 (sc-here (sInt w64)) (tyInt w64) (valS (sInt w64)) (sInt w64 .of) (reads-sc 𝓤 H A W (sInt w64), refl) tt (room-gone 𝓤 H A (tyInt w64)) (holds-sc 𝓤 H A W (sInt w64)) refl (λ u. refl) λ u. tt) (then W (t-op2 𝓤 H A W E 𝓣 (cx t20 ls·1) offset (oFld 1 ((field 0) ∷ []) ty·1 0 ptrVal) (oAt 11 (tyInt w64) (valS (sInt w64))) 14 (sc-here sPtr) tyPtr (valS sPtr) (sPtr .of) (reads-mslice-ptr 𝓤 H A W Elem.row ty·1 0 0 refl, refl) (reads-sc 𝓤 H A W (sInt w64), refl) (room-gone 𝓤 H A tyPtr) (holds-sc 𝓤 H A W sPtr) refl (λ u. refl) λ u. tt) (then W (Move.t-sl-set-from 𝓤 H A W E Elem.row 𝓣 refl (λ ρ. Unit) G26 1 14 13 0 ty·1 ℓ·0 Elem.ty Elem.ty (whole Elem.row) (bySize 96) (λ u. u .1 .1 .1 .1 .1 .1 .0) (λ x. x) (λ x. x) (λ x. x) (λ x. x) (λ i o. at-mul o 96 i) refl refl (Own.told-none 𝓤 H A (G26 .slots)) (as-is 𝓤 H A (mslice Elem.row ty·1 0)) (as-is 𝓤 H A (sc-here sPtr)) (yields W Elem.row refl Elem.copies) refl tt refl refl) (Joins.pre W (g-room 𝓤 H A W E G26 11 (tyInt w64) (room-sc 𝓤 H A W (sInt w64))) (Joins.pre W (g-room 𝓤 H A W E (cx t22 ls·1) 13 Elem.ty (room-whole 𝓤 H A W Elem.row Elem.ty refl)) (Joins.pre W (g-room 𝓤 H A W E (cx t23 ls·1) 14 tyPtr (room-sc 𝓤 H A W sPtr)) (then W (t-call-plain 𝓤 H A W 𝓣 0 ps·5 r·5 (claims· .10) (claims· .11) "table::serve::answer_of" (known .5) E (λ pos β. β) G30 (record { pos = 8; st = []; d = 0; at = λ x. x }, tt) 0 [] (sub-id 𝓤 H A W (G30 .slots)) ((yields W Stepped·row refl (cStruct Stepped.the-type Laws'.the-laws Laws'.the-copy), refl), tt) (room-gone 𝓤 H A Laws.mir) tt refl) (Joins.pre W (g-room 𝓤 H A W E (cx t25 ls·1) 4 (tyInt w32) (room-sc 𝓤 H A W (sInt w32))) (Joins.pre W (g-room 𝓤 H A W E (cx t26 ls·1) 6 (tyInt w64) (room-sc 𝓤 H A W (sInt w64))) (Joins.pre W (g-room 𝓤 H A W E (cx t27 ls·1) 8 Laws'.mir (room-whole 𝓤 H A W Stepped·row Laws'.mir refl)) (t-return 𝓤 H A W 𝓣 E Δ0 tt)))))))))))
 
-          d18 : Does G16 b22 Δ0 at18
-          d18 = Joins.pre W (g-room 𝓤 H A W E G16 11 (tyInt w64) (room-sc 𝓤 H A W (sInt w64))) (Joins.pre W (g-room 𝓤 H A W E (cx t12 ls·1) 12 tyPtr (room-sc 𝓤 H A W sPtr)) (then W (LocalCopy.t-val-copy 𝓤 H A W E 𝓣 (λ ρ. Unit) G18 13 7 Elem.row Elem.ty Elem.ty (whole Elem.row) (whole Elem.row) (λ x. x) (λ x. x) (λ x. x) refl (Own.told-none 𝓤 H A (G18 .slots)) (yields W Elem.row refl Elem.copies) (room-gone 𝓤 H A Elem.ty) (Joins.makes W Elem.row refl) refl refl) (Joins.pre W (g-room 𝓤 H A W E (cx t14 ls·1) 13 Elem.ty (room-whole 𝓤 H A W Elem.row Elem.ty refl)) (then W (t-call-plain 𝓤 H A W 𝓣 2 ps·3 r·3 (claims· .6) (claims· .7) "table::serve::act" (known .3) E (λ pos β. β) G20 (record { pos = 7; st = []; d = 0; at = λ x. x }, (record { pos = 5; st = []; d = 0; at = λ x. x }, (record { pos = 2; ty = tyRef (named 1) imm (tyInt w8); ref = λ x. x }, (record { pos = 3; ty = tyRef (named 2) imm (tyInt w8); ref = λ x. x }, tt)))) 8 (1 ∷ 2 ∷ []) (sub-id 𝓤 H A W (G20 .slots)) ((yields W Elem.row refl Elem.copies, refl), ((yields W Spot·row refl (cEnum Spot.the-type Laws''.the-laws Laws''.the-copy), refl), (spares-sslice 𝓤 H A W u8 ty·2 1, reads-sslice 𝓤 H A W u8 ty·2 1, refl, (spares-sslice 𝓤 H A W u8 ty·4 2, reads-sslice 𝓤 H A W u8 ty·4 2, refl, tt)))) (room-gone 𝓤 H A Laws'.mir) (tt, (tt, tt)) refl) (Joins.pre W (g-room 𝓤 H A W E (cx t16 ls·1) 5 Laws''.mir (room-whole 𝓤 H A W Spot·row Laws''.mir refl)) (then W (t-call-plain 𝓤 H A W 𝓣 0 ps·4 r·4 (claims· .8) (claims· .9) "table::serve::slot_after" (known .4) E (λ pos β. β) G22 (record { pos = 7; st = []; d = 0; at = λ x. x }, (vAt 4 λ x. x, (record { pos = 8; st = []; d = 0; at = λ x. x }, tt))) 13 [] (sub-id 𝓤 H A W (G22 .slots)) ((yields W Elem.row refl Elem.copies, refl), ((reads-sc 𝓤 H A W (sInt w32), refl), ((yields W Stepped·row refl (cStruct Stepped.the-type Laws'.the-laws Laws'.the-copy), refl), tt))) (room-gone 𝓤 H A Elem.ty) tt refl) d11))))))
+          d19 : Does G15 b23 Δ0 at19
+          d19 = then W (Move.t-sl-copy-out 𝓤 H A W E Elem.row 𝓣 refl (Elem.copies .copy 𝓤 H A W) (λ ρ. Unit) G15 1 12 13 0 ty·1 ℓ·0 Elem.ty Elem.ty (whole Elem.row) (bySize 96) (λ u. u .1 .1 .1 .1 .1 .1 .0) (λ x. x) Elem.past (λ x. Unit) (λ x. x) (λ x. x) (λ i o. at-mul o 96 i) refl refl (Own.told-none 𝓤 H A (G15 .slots)) (DerefMove.learns-nothing 𝓤 H A Elem.row) (as-is 𝓤 H A (mslice Elem.row ty·1 0)) (as-is 𝓤 H A (sc-here sPtr)) (room-gone 𝓤 H A Elem.ty) (Joins.makes W Elem.row refl) refl tt refl refl) (Joins.pre W (g-room 𝓤 H A W E G16 11 (tyInt w64) (room-sc 𝓤 H A W (sInt w64))) (Joins.pre W (g-room 𝓤 H A W E G17 12 tyPtr (room-sc 𝓤 H A W sPtr)) (then W (LocalCopy.t-val-copy 𝓤 H A W E 𝓣 (λ ρ. Unit) G18 13 7 Elem.row Elem.ty Elem.ty (whole Elem.row) (whole Elem.row) (λ x. x) (λ x. x) (λ x. x) refl (Own.told-none 𝓤 H A (G18 .slots)) (yields W Elem.row refl Elem.copies) (room-gone 𝓤 H A Elem.ty) (Joins.makes W Elem.row refl) refl refl) (Joins.pre W (g-room 𝓤 H A W E G19 13 Elem.ty (room-whole 𝓤 H A W Elem.row Elem.ty refl)) (then W (t-call-plain 𝓤 H A W 𝓣 2 ps·3 r·3 (claims· .6) (claims· .7) "table::serve::act" (known .3) E (λ pos β. β) G20 (record { pos = 7; st = []; d = 0; at = λ x. x }, (record { pos = 5; st = []; d = 0; at = λ x. x }, (record { pos = 2; ty = tyRef (named 1) imm (tyInt w8); ref = λ x. x }, (record { pos = 3; ty = tyRef (named 2) imm (tyInt w8); ref = λ x. x }, tt)))) 8 (1 ∷ 2 ∷ []) (sub-id 𝓤 H A W (G20 .slots)) ((yields W Elem.row refl Elem.copies, refl), ((yields W Spot·row refl (cEnum Spot.the-type Laws''.the-laws Laws''.the-copy), refl), (spares-sslice 𝓤 H A W u8 ty·2 1, reads-sslice 𝓤 H A W u8 ty·2 1, refl, (spares-sslice 𝓤 H A W u8 ty·4 2, reads-sslice 𝓤 H A W u8 ty·4 2, refl, tt)))) (room-gone 𝓤 H A Laws'.mir) (tt, (tt, tt)) refl) (Joins.pre W (g-room 𝓤 H A W E G21 5 Laws''.mir (room-whole 𝓤 H A W Spot·row Laws''.mir refl)) (then W (t-call-plain 𝓤 H A W 𝓣 0 ps·4 r·4 (claims· .8) (claims· .9) "table::serve::slot_after" (known .4) E (λ pos β. β) G22 (record { pos = 7; st = []; d = 0; at = λ x. x }, (vAt 4 λ x. x, (record { pos = 8; st = []; d = 0; at = λ x. x }, tt))) 13 [] (sub-id 𝓤 H A W (G22 .slots)) ((yields W Elem.row refl Elem.copies, refl), ((reads-sc 𝓤 H A W (sInt w32), refl), ((yields W Stepped·row refl (cStruct Stepped.the-type Laws'.the-laws Laws'.the-copy), refl), tt))) (room-gone 𝓤 H A Elem.ty) tt refl) d11)))))))
 
-          d27 : Does G7 b27 Δ0 at27
-          d27 = then W (t-call-plain 𝓤 H A W 𝓣 1 ps·1 r·1 (claims· .2) (claims· .3) "table::lookup::locate" (known .1) E (λ pos β. β) G7 (record { pos = 10; ty = tyRef erased imm Elem.pointed; ref = λ x. x }, (vAt 4 λ x. x, tt)) 5 (3 ∷ []) (sub-id 𝓤 H A W (G7 .slots)) (spares-sslice 𝓤 H A W Elem.row ty·3 3, reads-sslice 𝓤 H A W Elem.row ty·3 3, refl, ((reads-sc 𝓤 H A W (sInt w32), refl), tt)) (room-gone 𝓤 H A Laws''.mir) (tt, tt) refl) (Joins.pre W (g-room 𝓤 H A W E G8 10 ty·0 (room-sslice 𝓤 H A W Elem.row ty·3 3)) (Joins.pre W (Lifetime.g-end 𝓤 H A W E (cx g6 ls·0) 3 refl) (Joins.pre W (Reshare.g-back-sl-shr 𝓤 H A W E Elem.row G10 1 0 3 ty·1 ℓ·0 (λ x. x) (as-is 𝓤 H A (mslice-owedS Elem.row ty·1 0 3 ℓ·0)) refl refl) (Joins.pre W (Lifetime.g-forget 𝓤 H A W E G11 3 dead refl) (then W (t-call-plain 𝓤 H A W 𝓣 0 ps·2 r·2 (claims· .4) (claims· .5) "table::lookup::slot_of" (known .2) E (λ pos β. β) G12 (record { pos = 5; st = []; d = 0; at = λ x. x }, tt) 6 [] (sub-id 𝓤 H A W (G12 .slots)) ((yields W Spot·row refl (cEnum Spot.the-type Laws''.the-laws Laws''.the-copy), refl), tt) (room-gone 𝓤 H A (tyInt w64)) tt refl) (then W (t-op2 𝓤 H A W E 𝓣 G13 (mul unsigned) (oAt 6 (tyInt w64) (valS (sInt w64))) (oInt w64 136) 11 (sc-here (sInt w64)) (tyInt w64) (valS (sInt w64)) (sInt w64 .of) (reads-sc 𝓤 H A W (sInt w64), refl) tt (room-gone 𝓤 H A (tyInt w64)) (holds-sc 𝓤 H A W (sInt w64)) refl (λ u. refl) λ u. tt) (then W (t-op2 𝓤 H A W E 𝓣 G14 offset (oFld 1 ((field 0) ∷ []) ty·1 0 ptrVal) (oAt 11 (tyInt w64) (valS (sInt w64))) 12 (sc-here sPtr) tyPtr (valS sPtr) (sPtr .of) (reads-mslice-ptr 𝓤 H A W Elem.row ty·1 0 0 refl, refl) (reads-sc 𝓤 H A W (sInt w64), refl) (room-gone 𝓤 H A tyPtr) (holds-sc 𝓤 H A W sPtr) refl (λ u. refl) λ u. tt) (then W (Move.t-sl-copy-out 𝓤 H A W E Elem.row 𝓣 refl (Elem.copies .copy 𝓤 H A W) (λ ρ. Unit) G15 1 12 13 0 ty·1 ℓ·0 Elem.ty Elem.ty (whole Elem.row) (bySize 136) (λ u. u .1 .1 .1 .1 .1 .1 .0) (λ x. x) Elem.past (λ x. Unit) (λ x. x) (λ x. x) (λ i o. at-mul o 136 i) refl refl (Own.told-none 𝓤 H A (G15 .slots)) (DerefMove.learns-nothing 𝓤 H A Elem.row) (as-is 𝓤 H A (mslice Elem.row ty·1 0)) (as-is 𝓤 H A (sc-here sPtr)) (room-gone 𝓤 H A Elem.ty) (Joins.makes W Elem.row refl) refl tt refl refl) d18))))))))
+          d28 : Does G6 b28 Δ0 at28
+          d28 = then W (t-sl-aggregate 𝓤 H A W E Elem.row 𝓣 (asShr Elem.row) G6 9 10 3 ty·3 ty·3 (λ x. x) (oFld 1 ((field 1) ∷ []) (tyInt w64) 8 λ v. lenV (v .0)) (as-is 𝓤 H A (ssptr Elem.row ty·3 3)) (room-gone 𝓤 H A ty·0) (Reshare.reads-owedS-len 𝓤 H A W Elem.row ty·1 0 3 ℓ·0 8 refl, refl) refl refl λ b o k. tt) (then W (t-call-plain 𝓤 H A W 𝓣 1 ps·1 r·1 (claims· .2) (claims· .3) "table::lookup::locate" (known .1) E (λ pos β. β) G7 (record { pos = 10; ty = tyRef erased imm Elem.pointed; ref = λ x. x }, (vAt 4 λ x. x, tt)) 5 (3 ∷ []) (sub-id 𝓤 H A W (G7 .slots)) (spares-sslice 𝓤 H A W Elem.row ty·3 3, reads-sslice 𝓤 H A W Elem.row ty·3 3, refl, ((reads-sc 𝓤 H A W (sInt w32), refl), tt)) (room-gone 𝓤 H A Laws''.mir) (tt, tt) refl) (Joins.pre W (g-room 𝓤 H A W E (cx (en·6 ∷ (1, mslice-owedS Elem.row ty·1 0 3 ℓ·0) ∷ en·3 ∷ en·2 ∷ en·1 ∷ en·16 ∷ es·1) ls·0) 10 ty·0 (room-sslice 𝓤 H A W Elem.row ty·3 3)) (Joins.pre W (Lifetime.g-end 𝓤 H A W E (cx g6 ls·0) 3 refl) (Joins.pre W (Reshare.g-back-sl-shr 𝓤 H A W E Elem.row (cx g6 (off ∷ ℓ·1 ∷ ℓ·2 ∷ dead ∷ [])) 1 0 3 ty·1 ℓ·0 (λ x. x) (as-is 𝓤 H A (mslice-owedS Elem.row ty·1 0 3 ℓ·0)) refl refl) (Joins.pre W (Lifetime.g-forget 𝓤 H A W E G11 3 dead refl) (then W (t-call-plain 𝓤 H A W 𝓣 0 ps·2 r·2 (claims· .4) (claims· .5) "table::lookup::slot_of" (known .2) E (λ pos β. β) G12 (record { pos = 5; st = []; d = 0; at = λ x. x }, tt) 6 [] (sub-id 𝓤 H A W (G12 .slots)) ((yields W Spot·row refl (cEnum Spot.the-type Laws''.the-laws Laws''.the-copy), refl), tt) (room-gone 𝓤 H A (tyInt w64)) tt refl) (then W (t-op2 𝓤 H A W E 𝓣 (cx t8 ls·1) (mul unsigned) (oAt 6 (tyInt w64) (valS (sInt w64))) (oInt w64 96) 11 (sc-here (sInt w64)) (tyInt w64) (valS (sInt w64)) (sInt w64 .of) (reads-sc 𝓤 H A W (sInt w64), refl) tt (room-gone 𝓤 H A (tyInt w64)) (holds-sc 𝓤 H A W (sInt w64)) refl (λ u. refl) λ u. tt) (then W (t-op2 𝓤 H A W E 𝓣 (cx t9 ls·1) offset (oFld 1 ((field 0) ∷ []) ty·1 0 ptrVal) (oAt 11 (tyInt w64) (valS (sInt w64))) 12 (sc-here sPtr) tyPtr (valS sPtr) (sPtr .of) (reads-mslice-ptr 𝓤 H A W Elem.row ty·1 0 0 refl, refl) (reads-sc 𝓤 H A W (sInt w64), refl) (room-gone 𝓤 H A tyPtr) (holds-sc 𝓤 H A W sPtr) refl (λ u. refl) λ u. tt) d19))))))))
 
           pub typed : Typed 𝓤 H A 𝓣 E (Γin 3 ps r xs m κs qs) b30 (Δret 3 ps r xs m κs qs) Φ
-          typed = Joins.pre W (Know.g-shs-known 𝓤 H A W (fInt w8) E G0 2 1 ty·2 ℓ·1 0 (λ x. x) record { fits = Dec'.lit< tt } (as-is 𝓤 H A (sslice u8 ty·2 1)) refl tt) (Joins.pre W (Know.g-shs-known 𝓤 H A W (fInt w8) E G0 3 2 ty·4 ℓ·2 0 (λ x. x) record { fits = Dec'.lit< tt } (as-is 𝓤 H A (sslice u8 ty·4 2)) refl tt) (then W (t-call-plain 𝓤 H A W 𝓣 1 ps·0 r·0 (claims· .0) (claims· .1) "forms::item::call_in" (known .0) E (λ pos β. β) G0 (record { pos = 2; ty = tyRef (named 1) imm (tyInt w8); ref = λ x. x }, tt) 4 (1 ∷ []) (sub-id 𝓤 H A W (G0 .slots)) (spares-sslice 𝓤 H A W u8 ty·2 1, reads-sslice 𝓤 H A W u8 ty·2 1, refl, tt) (room-gone 𝓤 H A (tyInt w32)) (tt, tt) refl) (Joins.pre W (Lifetime.g-begin 𝓤 H A W E (cx t2 ls·1) 3 (tt, (tt, (tt, (tt, (tt, (tt, (tt, (tt, (tt, (tt, (tt, (tt, (tt, (tt, (tt, tt)))))))))))))))) (then W (Reshare.t-sl-reshare 𝓤 H A W E Elem.row 𝓣 (cx t2 (ℓ·0 ∷ ℓ·1 ∷ ℓ·2 ∷ alive ∷ [])) 1 9 0 3 ty·1 ty·3 ℓ·0 0 (λ x. x) (as-is 𝓤 H A (mslice Elem.row ty·1 0)) (room-gone 𝓤 H A ty·3) refl tt refl refl refl λ b o. tt) (then W (t-sl-aggregate 𝓤 H A W E Elem.row 𝓣 (asShr Elem.row) (cx (en·6 ∷ (1, mslice-owedS Elem.row ty·1 0 3 ℓ·0) ∷ en·3 ∷ en·2 ∷ en·1 ∷ en·15 ∷ en·13 ∷ en·9 ∷ en·14 ∷ (9, ssptr Elem.row ty·3 3) ∷ en·11 ∷ en·0 ∷ es·6) ls·0) 9 10 3 ty·3 ty·3 (λ x. x) (oFld 1 ((field 1) ∷ []) (tyInt w64) 8 λ v. lenV (v .0)) (as-is 𝓤 H A (ssptr Elem.row ty·3 3)) (room-gone 𝓤 H A ty·0) (Reshare.reads-owedS-len 𝓤 H A W Elem.row ty·1 0 3 ℓ·0 8 refl, refl) refl refl λ b o k. tt) d27)))))
+          typed = Joins.pre W (Know.g-shs-known 𝓤 H A W (fInt w8) E G0 2 1 ty·2 ℓ·1 0 (λ x. x) record { fits = Dec'.lit< tt } (as-is 𝓤 H A (sslice u8 ty·2 1)) refl tt) (Joins.pre W (Know.g-shs-known 𝓤 H A W (fInt w8) E G0 3 2 ty·4 ℓ·2 0 (λ x. x) record { fits = Dec'.lit< tt } (as-is 𝓤 H A (sslice u8 ty·4 2)) refl tt) (then W (t-call-plain 𝓤 H A W 𝓣 1 ps·0 r·0 (claims· .0) (claims· .1) "forms::item::call_in" (known .0) E (λ pos β. β) G0 (record { pos = 2; ty = tyRef (named 1) imm (tyInt w8); ref = λ x. x }, tt) 4 (1 ∷ []) (sub-id 𝓤 H A W (G0 .slots)) (spares-sslice 𝓤 H A W u8 ty·2 1, reads-sslice 𝓤 H A W u8 ty·2 1, refl, tt) (room-gone 𝓤 H A (tyInt w32)) (tt, tt) refl) (Joins.pre W (Lifetime.g-begin 𝓤 H A W E (cx t2 ls·1) 3 (tt, (tt, (tt, (tt, (tt, (tt, (tt, (tt, (tt, (tt, (tt, (tt, (tt, (tt, (tt, tt)))))))))))))))) (then W (Reshare.t-sl-reshare 𝓤 H A W E Elem.row 𝓣 (cx t2 (ℓ·0 ∷ ℓ·1 ∷ ℓ·2 ∷ alive ∷ [])) 1 9 0 3 ty·1 ty·3 ℓ·0 0 (λ x. x) (as-is 𝓤 H A (mslice Elem.row ty·1 0)) (room-gone 𝓤 H A ty·3) refl tt refl refl refl λ b o. tt) d28))))
 
       module _ (κs : Lfts 3) where
         pub record Args : Type 0 where

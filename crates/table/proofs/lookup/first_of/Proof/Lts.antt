@@ -159,7 +159,7 @@ abbrev b18 : Body
 b18 = seq (assign (place 4 []) (rvOpd (copy (place 8 [])))) (seq (Syntax.call "table::lookup::is_of" ((copy (place 2 [])) ∷ (copy (place 4 [])) ∷ []) (place 9 [])) (seq b14 b15))
 
 abbrev b21 : Body
-b21 = seq (assign (place 6 []) (op2 (mul unsigned) (copy (place 3 [])) (int w64 136))) (seq (assign (place 7 []) (op2 offset (copy (place 1 ((field 0) ∷ []))) (copy (place 6 [])))) (seq (assign (place 8 []) (rvOpd (copy (place 7 ((Syntax.deref Elem.ty) ∷ []))))) b18))
+b21 = seq (assign (place 6 []) (op2 (mul unsigned) (copy (place 3 [])) (int w64 96))) (seq (assign (place 7 []) (op2 offset (copy (place 1 ((field 0) ∷ []))) (copy (place 6 [])))) (seq (assign (place 8 []) (rvOpd (copy (place 7 ((Syntax.deref Elem.ty) ∷ []))))) b18))
 
 abbrev b23 : Body
 b23 = seq (assign (place 5 []) (op2 (lt unsigned) (copy (place 3 [])) (int w64 64))) (seq b4 b21)
@@ -328,13 +328,13 @@ module _ (claims· : Claims) where
   s4 = n-room T7 5 tyBool
 
   abbrev s5 : Asks T2 T9
-  s5 = k-op2 T2 (mul unsigned) (oAt 3 (tyInt w64) (valS (sInt w64))) (oInt w64 136) 6 (sc-here (sInt w64)) (sInt w64 .of)
+  s5 = k-op2 T2 (mul unsigned) (oAt 3 (tyInt w64) (valS (sInt w64))) (oInt w64 96) 6 (sc-here (sInt w64)) (sInt w64 .of)
 
   abbrev s6 : Asks T9 T10
   s6 = k-op2 T9 offset (oFld 1 ((field 0) ∷ []) ty·0 0 ptrVal) (oAt 6 (tyInt w64) (valS (sInt w64))) 7 (sc-here sPtr) (sPtr .of)
 
   abbrev s7 : Typed.Both T10 T11
-  s7 = Move.k-shs-copy-out Elem.row T10 1 7 8 0 ty·0 off (whole Elem.row) (Shared.bySize 136) (λ u. u .1 .1 .1 .0) (λ x. x) Elem.past (λ x. Unit) (λ x. x) λ x. x
+  s7 = Move.k-shs-copy-out Elem.row T10 1 7 8 0 ty·0 off (whole Elem.row) (Shared.bySize 96) (λ u. u .1 .1 .1 .0) (λ x. x) Elem.past (λ x. Unit) (λ x. x) λ x. x
 
   abbrev s8 : Mo T11 → Mo T12
   s8 = n-room T11 6 (tyInt w64)
@@ -517,7 +517,7 @@ module _ (claims· : Claims) where
           d31 = then W (t-use 𝓤 H A W E 𝓣 G3 (oInt w64 64) 0 (sc-here (sInt w64)) (tyInt w64) (valS (sInt w64)) (sInt w64 .of) tt (room-gone 𝓤 H A (tyInt w64)) (holds-sc 𝓤 H A W (sInt w64)) refl (λ u. refl) λ u. tt) (Joins.pre W (g-room 𝓤 H A W E G21 3 (tyInt w64) (room-sc 𝓤 H A W (sInt w64))) (Typed.t-return 𝓤 H A W 𝓣 E Δ0 tt))
 
           d32 : Does G2 b29 Δ0 at32
-          d32 = t-seq 𝓤 H A W 𝓣 E G2 G3 b25 b28 Δ0 at28 at31 (Typed.t-block 𝓤 H A W 𝓣 E G2 b24 Δ1 at27 (Typed.t-loop-by 𝓤 H A W 𝓣 E G2 b23 Δ2 put0 held·0 left·0 at26 (then W (t-op2 𝓤 H A W E 𝓣 G2 (lt unsigned) (oAt 3 (tyInt w64) (valS (sInt w64))) (oInt w64 64) 5 (sc-here sBool) tyBool (valS sBool) (sBool .of) (reads-sc 𝓤 H A W (sInt w64), refl) tt (room-gone 𝓤 H A tyBool) (holds-sc 𝓤 H A W sBool) refl (λ u. refl) λ u. tt) (t-seq 𝓤 H A W 𝓣 E G4 G2 b4 b21 Δ3 at5 at24 (t-cond 𝓤 H A W E 𝓣 G4 5 (λ x. x) b2 b3 Δ4 at1 at4 (reads-sc 𝓤 H A W sBool) refl (Joins.pre W (g-room 𝓤 H A W E G4 5 tyBool (room-sc 𝓤 H A W sBool)) (Typed.t-skip 𝓤 H A W 𝓣 E Δ4 tt)) (Joins.pre W (g-room 𝓤 H A W E G4 2 Laws.mir (room-whole 𝓤 H A W Owner·row Laws.mir refl)) (Joins.pre W (g-room 𝓤 H A W E (cx t5 ls·0) 5 tyBool (room-sc 𝓤 H A W sBool)) (Typed.t-exit 𝓤 H A W 𝓣 E 1 Δ4 tt)))) (then W (t-op2 𝓤 H A W E 𝓣 G2 (mul unsigned) (oAt 3 (tyInt w64) (valS (sInt w64))) (oInt w64 136) 6 (sc-here (sInt w64)) (tyInt w64) (valS (sInt w64)) (sInt w64 .of) (reads-sc 𝓤 H A W (sInt w64), refl) tt (room-gone 𝓤 H A (tyInt w64)) (holds-sc 𝓤 H A W (sInt w64)) refl (λ u. refl) λ u. tt) (then W (t-op2 𝓤 H A W E 𝓣 (cx t6 ls·0) offset (oFld 1 ((field 0) ∷ []) ty·0 0 ptrVal) (oAt 6 (tyInt w64) (valS (sInt w64))) 7 (sc-here sPtr) tyPtr (valS sPtr) (sPtr .of) (Shared.reads-sslice-ptr 𝓤 H A W Elem.row ty·0 0 0 refl, refl) (reads-sc 𝓤 H A W (sInt w64), refl) (room-gone 𝓤 H A tyPtr) (holds-sc 𝓤 H A W sPtr) refl (λ u. refl) λ u. tt) (then W (Move.t-shs-copy-out 𝓤 H A W E Elem.row 𝓣 refl (Elem.copies .copy 𝓤 H A W) (Copies.halved 𝓤 H A W Elem.copies) (λ ρ. Unit) G10 1 7 8 0 ty·0 ℓ·0 Elem.ty Elem.ty (whole Elem.row) (Shared.bySize 136) (λ u. u .1 .1 .1 .0) (λ x. x) Elem.past (λ x. Unit) (λ x. x) (λ x. x) (λ i o. Elements.at-mul o 136 i) refl refl (Own.told-none 𝓤 H A (G10 .slots)) (DerefMove.learns-nothing 𝓤 H A Elem.row) (as-is 𝓤 H A (sslice Elem.row ty·0 0)) (as-is 𝓤 H A (sc-here sPtr)) (room-gone 𝓤 H A Elem.ty) (Joins.makes W Elem.row refl) refl tt refl refl) d21))))))) d31
+          d32 = t-seq 𝓤 H A W 𝓣 E G2 G3 b25 b28 Δ0 at28 at31 (Typed.t-block 𝓤 H A W 𝓣 E G2 b24 Δ1 at27 (Typed.t-loop-by 𝓤 H A W 𝓣 E G2 b23 Δ2 put0 held·0 left·0 at26 (then W (t-op2 𝓤 H A W E 𝓣 G2 (lt unsigned) (oAt 3 (tyInt w64) (valS (sInt w64))) (oInt w64 64) 5 (sc-here sBool) tyBool (valS sBool) (sBool .of) (reads-sc 𝓤 H A W (sInt w64), refl) tt (room-gone 𝓤 H A tyBool) (holds-sc 𝓤 H A W sBool) refl (λ u. refl) λ u. tt) (t-seq 𝓤 H A W 𝓣 E G4 G2 b4 b21 Δ3 at5 at24 (t-cond 𝓤 H A W E 𝓣 G4 5 (λ x. x) b2 b3 Δ4 at1 at4 (reads-sc 𝓤 H A W sBool) refl (Joins.pre W (g-room 𝓤 H A W E G4 5 tyBool (room-sc 𝓤 H A W sBool)) (Typed.t-skip 𝓤 H A W 𝓣 E Δ4 tt)) (Joins.pre W (g-room 𝓤 H A W E G4 2 Laws.mir (room-whole 𝓤 H A W Owner·row Laws.mir refl)) (Joins.pre W (g-room 𝓤 H A W E (cx t5 ls·0) 5 tyBool (room-sc 𝓤 H A W sBool)) (Typed.t-exit 𝓤 H A W 𝓣 E 1 Δ4 tt)))) (then W (t-op2 𝓤 H A W E 𝓣 G2 (mul unsigned) (oAt 3 (tyInt w64) (valS (sInt w64))) (oInt w64 96) 6 (sc-here (sInt w64)) (tyInt w64) (valS (sInt w64)) (sInt w64 .of) (reads-sc 𝓤 H A W (sInt w64), refl) tt (room-gone 𝓤 H A (tyInt w64)) (holds-sc 𝓤 H A W (sInt w64)) refl (λ u. refl) λ u. tt) (then W (t-op2 𝓤 H A W E 𝓣 (cx t6 ls·0) offset (oFld 1 ((field 0) ∷ []) ty·0 0 ptrVal) (oAt 6 (tyInt w64) (valS (sInt w64))) 7 (sc-here sPtr) tyPtr (valS sPtr) (sPtr .of) (Shared.reads-sslice-ptr 𝓤 H A W Elem.row ty·0 0 0 refl, refl) (reads-sc 𝓤 H A W (sInt w64), refl) (room-gone 𝓤 H A tyPtr) (holds-sc 𝓤 H A W sPtr) refl (λ u. refl) λ u. tt) (then W (Move.t-shs-copy-out 𝓤 H A W E Elem.row 𝓣 refl (Elem.copies .copy 𝓤 H A W) (Copies.halved 𝓤 H A W Elem.copies) (λ ρ. Unit) G10 1 7 8 0 ty·0 ℓ·0 Elem.ty Elem.ty (whole Elem.row) (Shared.bySize 96) (λ u. u .1 .1 .1 .0) (λ x. x) Elem.past (λ x. Unit) (λ x. x) (λ x. x) (λ i o. Elements.at-mul o 96 i) refl refl (Own.told-none 𝓤 H A (G10 .slots)) (DerefMove.learns-nothing 𝓤 H A Elem.row) (as-is 𝓤 H A (sslice Elem.row ty·0 0)) (as-is 𝓤 H A (sc-here sPtr)) (room-gone 𝓤 H A Elem.ty) (Joins.makes W Elem.row refl) refl tt refl refl) d21))))))) d31
 
           pub typed : Typed.Typed 𝓤 H A 𝓣 E (Γin 1 ps r xs m κs qs) b30 (Δret 1 ps r xs m κs qs) Φ
           typed = then W (t-use 𝓤 H A W E 𝓣 (cx t0 ls·0) (oInt w64 0) 3 (sc-here (sInt w64)) (tyInt w64) (valS (sInt w64)) (sInt w64 .of) tt (room-gone 𝓤 H A (tyInt w64)) (holds-sc 𝓤 H A W (sInt w64)) refl (λ u. refl) λ u. tt) d32
