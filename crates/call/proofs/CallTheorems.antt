@@ -27,7 +27,7 @@ use Rattle.call.specs.declared.refusals.Check.the-variants.{Pass, Fail}
 use Rattle.call.specs.declared.kind.Kind.the-variants as kind
 use Rattle.forms.specs.Profile.{isRelease}
 use Rattle.call.specs.Roles.{roles, isRole, isActive, losesLeg, every}
-use Rattle.call.specs.Armings.{isMode, someArmed, unarmed, modeAt, disarmed}
+use Rattle.call.specs.Armings.{isMode, someArmed, nothingArmed, unarmed, modeAt, disarmed}
 use Rattle.call.specs.Points.{isOnLeg, leaves, disarms, isPointSet}
 use Rattle.call.specs.Record.{waiting, running, isPresent, isPending, isStarted, isHeld, isTrigger, blank, noTimer, legAt}
 use Rattle.call.specs.Charging.{answeredAs, answered, granted, reportAs, reportOf}
@@ -43,11 +43,6 @@ use Rattle.call.proofs.Laws.{on-cond}
 use Rattle.call.proofs.PointLaws.{every-same, below, disarm-these, disarmed-length, isPast, answer-row, lost-leg, busy-leg}
 
 -- ---- relationship
-
--- every arming's mode is none
-unfoldable pub nothingArmed : List Arming → Bool
-nothingArmed [] = true
-nothingArmed (a ∷ l) = isMode (a .mode) mode.None && nothingArmed l
 
 -- not held, nothing armed, no charge pending
 abbrev pub isIdle : Record → Bool

@@ -30,7 +30,7 @@ use Rattle.forms.specs.Profile.{isRelease}
 use Rattle.call.specs.Roles.{roles, placeOf, isRole, isAmong, every, isActive}
 use Rattle.call.specs.Armings.{isMode, modeOf, unarmed, noArmings, modeAt, disarmed}
 use Rattle.call.specs.Points.{originating, pointIn, isIn, leaves, disarms, isPointSet}
-use Rattle.call.specs.Record.{setOf, leg, charge, noCharge, waiting, running, isPresent, numberOf, legAt, timed, staged, withLegs, withLeg, armedAs, numbered, isHeld, isTrigger}
+use Rattle.call.specs.Record.{places, setOf, leg, charge, noCharge, waiting, running, isPresent, numberOf, legAt, timed, staged, withLegs, withLeg, armedAs, numbered, isHeld, isTrigger}
 use Rattle.call.specs.Charging.{answeredAs, answered, granted}
 use Rattle.call.specs.Answers.{remains, firstOf, guarded}
 use Rattle.call.specs.Trigger.{triggers}
@@ -42,22 +42,8 @@ use Rattle.call.specs.Range.{chargeInRangeAs, chargeInRange, holdInRange
 use Rattle.call.specs.Refusals.{row1, row1Time, row2, row3, row7, rowsOf}
 use Rattle.call.specs.Step.{served, respondIn, respondOf, stepOf}
 use Rattle.call.specs.Setup.{opened, begun, openAs, openOf}
-use Rattle.call.proofs.Laws.{on-cond, passes, no-row}
+use Rattle.call.proofs.Laws.{on-cond, each, passes, no-row}
 use Rattle.call.proofs.PointLaws.{place-injective, same-role, every-role, disarm-these, originating-fits, role-exactly, pair-point}
-
--- ---- tests in a row
-
-abbrev chain : Bool → List Bool → Bool
-chain b [] = b
-chain b (c ∷ l) = chain (b && c) l
-
--- each test of a chain that holds
-each : (b : Bool) (l : List Bool) → chain b l ≡ true → (i : ℕ) → getD (b ∷ l) i true ≡ true
-each b [] h zero = h
-each b [] h (suc i) = refl
-each b (c ∷ l) h zero = and-left b c (each (b && c) l h zero)
-each b (c ∷ l) h (suc zero) = and-right b c (each (b && c) l h zero)
-each b (c ∷ l) h (suc (suc i)) = each (b && c) l h (suc i)
 
 -- ---- a record's tests, one by one
 
@@ -275,7 +261,7 @@ number-fits n c ds h =
     let d = and-right (nature n .inRange && (digitCount c .inRange && true)) (eqb (length ds) c && all isDigit ds) h in
     let g = and-left (digitCount c .inRange) true (and-right (nature n .inRange) (digitCount c .inRange && true) f) in
     rw (and-left (nature n .inRange) (digitCount c .inRange && true) f, g)
-    (places-fit 15 c ds (eqb-true (length ds) c (and-left (eqb (length ds) c) (all isDigit ds) d)) (and-right (eqb (length ds) c) (all isDigit ds) d))
+    (places-fit places c ds (eqb-true (length ds) c (and-left (eqb (length ds) c) (all isDigit ds) d)) (and-right (eqb (length ds) c) (all isDigit ds) d))
 
 -- what an item in range asks: a number or a period in range
 abbrev asksFit : Kind → List ℕ → Bool

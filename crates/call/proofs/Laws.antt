@@ -1,15 +1,15 @@
 -- Laws of tests and of the loops, for the proofs of the functions and for the theorems.
 use Prim.Native.Nat.{ℕ, zero, suc, _+_, _-_, _*_, _≤_, _<_}
 use mathlib.Core.Path.{_≡_, refl, sym, ap}
-use mathlib.Core.Bool.{Bool, true, false, cond, _&&_, _||_, and-true, and-assoc, or-false, false≢true}
+use mathlib.Core.Bool.{Bool, true, false, cond, _&&_, _||_, and-true, and-false, and-assoc, or-false, false≢true}
 use mathlib.Core.List.{List, [], _∷_, _++_}
 use native.Mathlib.Numerals.{add-one}
 use native.Mathlib.Nat.{sub-eq-zero-of-le}
 use native.Mathlib.Omega.{arith}
-use lib.Dec.{ltb, eqb}
+use lib.Dec.{ltb, eqb, eqb·suc-suc}
 use lib.ListN.{length, getD, take, drop, set, drop-of-length-le}
 use lib.Seq.{drop-cons, drop-drop, take-suc-set, set-getD}
-use borrow.Author.Tests.{ltb-true, ltb-false, lt-ltb, le-ltb}
+use borrow.Author.Tests.{ltb-true, ltb-false, lt-ltb, le-ltb, ne-eqb}
 use Rattle.forms.specs.Fields.{isDigit, allInRange}
 use Rattle.forms.specs.Bytes.{pad}
 use Rattle.forms.specs.Item.{formOf, restInRange, itemInRange, entryOf}
@@ -18,11 +18,12 @@ use Rattle.forms.specs.Units.{clockEnd}
 use Rattle.call.specs.Types.{Entry, Item, Tenths, PointSet, Mode, Arming, Named, Record, Check}
 use Rattle.forms.specs.declared.profile.ProfileView.{ProfileView}
 use Rattle.forms.specs.declared.profile.ReadProfile.the-variants.{Profile, Refused}
-use Rattle.forms.proofs.ByteLaws.{and-right}
+use Rattle.forms.proofs.ByteLaws.{and-left, and-right}
 use Rattle.forms.proofs.ItemLaws.{item-size}
+use Rattle.call.specs.declared.armings.Mode.the-variants as mode
 use Rattle.call.specs.declared.refusals.Check.the-variants.{Pass, Fail}
 use Rattle.call.specs.declared.points.Named.the-variants.{Unknown, Known}
-use Rattle.call.specs.Armings.{unarmed, isMode, someArmed}
+use Rattle.call.specs.Armings.{unarmed, isMode, someArmed, nothingArmed}
 use Rattle.call.specs.Record.{armedAs}
 use Rattle.call.specs.Answers.{Row, row, firstOf}
 use Rattle.call.specs.Request.{entriesOf, named, isGood, placeNamed, seenAfter, areGood, isPossible, arePossible, armingAfter, keptFor, armedBy, armedWith}
@@ -33,6 +34,20 @@ use Rattle.call.specs.Range.{placesInRange}
 pub on-cond : {A : Type 0} (P : A → Type 0) (b : Bool) (x y : A) → P x → P y → P (cond b x y)
 on-cond P true x y h g = h
 on-cond P false x y h g = g
+
+-- ---- tests in a row
+
+abbrev pub chain : Bool → List Bool → Bool
+chain b [] = b
+chain b (c ∷ l) = chain (b && c) l
+
+-- each test of a chain that holds
+pub each : (b : Bool) (l : List Bool) → chain b l ≡ true → (i : ℕ) → getD (b ∷ l) i true ≡ true
+each b [] h zero = h
+each b [] h (suc i) = refl
+each b (c ∷ l) h zero = and-left b c (each (b && c) l h zero)
+each b (c ∷ l) h (suc zero) = and-right b c (each (b && c) l h zero)
+each b (c ∷ l) h (suc (suc i)) = each (b && c) l h (suc i)
 
 -- ---- numbers
 
@@ -95,7 +110,7 @@ time-fits i rest h = and-right (allInRange (formOf (i .body) .fields) && restInR
 pub item-fits : (i : Item) (rest : List ℕ) → itemInRange i rest ≡ true → (i .time .0 < clockEnd) × (length rest < 256)
 item-fits i rest h = (ltb-true _ _ (time-fits i rest h), omega (arith, item-size i rest h))
 
--- ---- a loop over armings: what was found, and what is left
+-- ---- loops over armings: what was found, and what is left
 
 pub armed-step : (m : Mode) (a : List Arming) (i : ℕ) (found : Bool) → i < length a
     → (found || isMode (getD a i unarmed .mode) m || someArmed m (drop (i + 1) a)) ≡ (found || someArmed m (drop i a))
@@ -106,6 +121,14 @@ armed-step m a i false h = rw (add-one, drop-cons a i unarmed h)
 pub armed-end : (m : Mode) (a : List Arming) (i : ℕ) (found : Bool) → length a ≤ i → (found || someArmed m (drop i a)) ≡ found
 unfolding someArmed
 armed-end m a i found h = rw (drop-of-length-le a h, or-false)
+
+pub unarmed-step : (a : List Arming) (i : ℕ) (ok : Bool) → i < length a → (ok && isMode (getD a i unarmed .mode) mode.None && nothingArmed (drop (i + 1) a)) ≡ (ok && nothingArmed (drop i a))
+unfolding nothingArmed
+unarmed-step a i ok h = rw (and-assoc, add-one, drop-cons a i unarmed h)
+
+pub unarmed-end : (a : List Arming) (i : ℕ) (ok : Bool) → length a ≤ i → (ok && nothingArmed (drop i a)) ≡ ok
+unfolding nothingArmed
+unarmed-end a i ok h = rw (drop-of-length-le a h, and-true)
 
 -- ---- loops over the places of a number
 
@@ -124,6 +147,15 @@ places-step c l i ok h =
 pub places-end : (c : ℕ) (l : List ℕ) (i : ℕ) (ok : Bool) → length l ≤ i → (ok && placesInRange c (drop i l)) ≡ ok
 unfolding placesInRange
 places-end c l i ok h = rw (drop-of-length-le l h, and-true)
+
+-- the empty places are counted: all were empty, and so are those that are left
+pub empty-step : (l : List ℕ) (i e : ℕ) → i < length l → getD l i 0 ≡ 0 → (eqb (e + 1) (i + 1) && placesInRange 0 (drop (i + 1) l)) ≡ (eqb e i && placesInRange 0 (drop i l))
+unfolding placesInRange
+empty-step l i e h z = rw (add-one e, add-one i, eqb·suc-suc e i, drop-cons l i 0 h, z)
+
+pub used-step : (l : List ℕ) (i e : ℕ) → i < length l → e ≤ i → (getD l i 0 ≡ 0 → ⊥) → (eqb e (i + 1) && placesInRange 0 (drop (i + 1) l)) ≡ (eqb e i && placesInRange 0 (drop i l))
+unfolding placesInRange
+used-step l i e h k z = rw (ne-eqb e (i + 1) (λ q. omega arith), drop-cons l i 0 h, ne-eqb (getD l i 0) 0 z, and-false)
 
 -- ---- loops over entries: those from i on begin with entry i
 

@@ -29,7 +29,7 @@ use Rattle.call.specs.declared.answers.Answer.the-variants.{Accepted, Re
 use Rattle.call.specs.Roles.{roles}
 use Rattle.call.specs.Armings.{modeAt, unarmed, modeOf, isMode, someArmed}
 use Rattle.call.specs.Points.{originating, pointIn, roleIn, isPointSet}
-use Rattle.call.specs.Record.{blank, legAt}
+use Rattle.call.specs.Record.{places, blank, legAt}
 use Rattle.call.specs.Trigger.{triggers}
 use Rattle.call.specs.Request.{entriesOf, areGood, arePossible, armedWith}
 use Rattle.call.specs.Events.{canMeet, met}
@@ -91,7 +91,7 @@ modes = refl
 -- ---- records: by the profile's defaults, and all else; then a call to 49 whose last time is 1000, default timer 120, default continue, nothing kept
 
 abbrev to : List ℕ → Number
-to digits = record { nature = 4; count = length digits; digits = pad 15 digits }
+to digits = record { nature = 4; count = length digits; digits = pad places digits }
 
 abbrev by : ℕ → Handling → Stage → LegState → LegState → Hold → ℕ → List Arming → ℕ → Number → Record
 by timer handling stage leg1 leg2 hold last armings kept number = record {
@@ -513,8 +513,8 @@ pub operations-leave :
     ∷ (none, with Analysing (present (waits 600)) (present (waits 700)) H.Trigger 1010 (only 6 M.Interrupted) 30 (to (4 ∷ 9 ∷ [])))
     ∷ (some 1310, with Analysing (present (waits 600)) (present (waits 700)) H.None 1010 armings 0 (to (4 ∷ 9 ∷ [])))
     ∷ (none, with Active (present uncharged) (present uncharged) H.None 1010 armings 0 (to (4 ∷ 9 ∷ [])))
-    ∷ (some 1310, with Analysing (present (waits 600)) (present (waits 700)) H.None 1010 armings 0 (record { nature = 3; count = 1; digits = pad 15 (6 ∷ []) }))
-    ∷ (some 1310, with Analysing (present (runs 600 900)) (present uncharged) H.None 1010 armings 0 (record { nature = 3; count = 1; digits = pad 15 (6 ∷ []) }))
+    ∷ (some 1310, with Analysing (present (waits 600)) (present (waits 700)) H.None 1010 armings 0 (record { nature = 3; count = 1; digits = pad places (6 ∷ []) }))
+    ∷ (some 1310, with Analysing (present (runs 600 900)) (present uncharged) H.None 1010 armings 0 (record { nature = 3; count = 1; digits = pad places (6 ∷ []) }))
     ∷ (none, blank)
     ∷ (none, blank)
     ∷ (none, with Analysing (present (waits 600)) (present (waits 700)) H.Trigger 1010 armings 30 (to (4 ∷ 9 ∷ [])))
@@ -536,7 +536,7 @@ abbrev timed : ℕ → Record
 timed n = by n D.Release Active (present uncharged) (present uncharged) H.None 1000 (armed M.None) 0 (to (4 ∷ 9 ∷ []))
 
 abbrev numbered : ℕ → ℕ → List ℕ → Record
-numbered nature count digits = ranged uncharged uncharged H.None 1000 (armed M.None) 0 (record { nature = nature; count = count; digits = pad 15 digits })
+numbered nature count digits = ranged uncharged uncharged H.None 1000 (armed M.None) 0 (record { nature = nature; count = count; digits = pad places digits })
 
 abbrev charged : Charge → List Record
 charged c = ranged c uncharged H.None 1000 (armed M.None) 0 (to (4 ∷ 9 ∷ [])) ∷ ranged uncharged c H.None 1000 (armed M.None) 0 (to (4 ∷ 9 ∷ [])) ∷ []
@@ -559,7 +559,7 @@ unfit =
     ∷ charged (charge K.None 1 0) ++ charged (charge K.None 0 1) ++ charged (charge K.Waiting 600 1)
     ++ charged (waits 0) ++ charged (waits 864001) ++ charged (runs 0 1000) ++ charged (runs 864001 1000) ++ charged (runs 600 1001)
     -- nature 128, no digits, 16 digits, digit 15; "digit places past the called number's count zero": the first past it, and the last
-    ++ (numbered 128 1 (4 ∷ []) ∷ numbered 4 0 [] ∷ numbered 4 16 (replicate 15 4) ∷ numbered 4 1 (15 ∷ []) ∷ numbered 4 1 (4 ∷ 9 ∷ []) ∷ numbered 4 14 (replicate 15 1) ∷ [])
+    ++ (numbered 128 1 (4 ∷ []) ∷ numbered 4 0 [] ∷ numbered 4 16 (replicate places 4) ∷ numbered 4 1 (15 ∷ []) ∷ numbered 4 1 (4 ∷ 9 ∷ []) ∷ numbered 4 15 (replicate places 1) ∷ [])
 
 pub in-range : (map recordInRange fits ≡ map (λ (r : Record). true) fits) × (map recordInRange unfit ≡ map (λ (r : Record). false) unfit)
 unfolding placesInRange numberInRange inRangeOf

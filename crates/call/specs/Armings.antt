@@ -1,7 +1,7 @@
 -- Document 01, One call: monitor modes, and the armings (EDPs), one for each role.
 use Prim.Native.Nat.{ℕ}
 use mathlib.Core.List.{List, [], _∷_}
-use mathlib.Core.Bool.{Bool, true, false, cond, _||_}
+use mathlib.Core.Bool.{Bool, true, false, cond, _&&_, _||_}
 use lib.Dec.{eqb}
 use lib.ListN.{getD, set, replicate}
 use Rattle.call.specs.Types.{Role, Mode, Arming}
@@ -33,6 +33,11 @@ modeAt p l = getD l (placeOf p) unarmed .mode
 unfoldable pub someArmed : Mode → List Arming → Bool
 someArmed m [] = false
 someArmed m (a ∷ l) = isMode (a .mode) m || someArmed m l
+
+-- every arming's mode is none
+unfoldable pub nothingArmed : List Arming → Bool
+nothingArmed [] = true
+nothingArmed (a ∷ l) = isMode (a .mode) mode.None && nothingArmed l
 
 abbrev pub disarmed : List Role → List Arming → List Arming
 disarmed [] l = l

@@ -13,7 +13,7 @@ use Rattle.forms.specs.declared.item.Leg.the-variants.{One, Two}
 use Rattle.call.specs.declared.armings.Mode.the-variants as mode
 use Rattle.call.specs.declared.record.Hold.the-variants as hold
 use Rattle.call.specs.Roles.{isAnalysing, roles, isRole, every}
-use Rattle.call.specs.Armings.{isMode, someArmed, modeAt}
+use Rattle.call.specs.Armings.{isMode, modeAt, nothingArmed}
 use Rattle.call.specs.Points.{isIn}
 use Rattle.call.specs.Record.{isPresent, isPending, isHeld, setOf, legAt}
 
@@ -60,13 +60,14 @@ recordInRange r = inRangeOf (setOf r) r
 abbrev pub isUnused : LegState → Bool
 isUnused l = not (isPresent (l .presence)) && not (isPending (l .charge .clock)) && eqb (l .charge .period .0) 0 && eqb (l .charge .start .0) 0
 
-abbrev pub isUnarmed : List Arming → Bool
-isUnarmed a = not (someArmed mode.Interrupted a) && not (someArmed mode.Notify a)
-
 abbrev pub isNoNumber : Number → Bool
 isNoNumber n = eqb (n .nature) 0 && eqb (n .count) 0 && placesInRange 0 (n .digits)
 
-unfoldable pub isBlank : Record → Bool
-isBlank r =
+-- all but the armings and the called number
+unfoldable pub areFieldsBlank : Record → Bool
+areFieldsBlank r =
     isAnalysing (r .stage) && isUnused (legAt One r) && isUnused (legAt Two r) && not (isHeld (r .hold)) && eqb (r .last .0) 0
-    && isUnarmed (r .armings) && eqb (r .kept .0) 0 && eqb (r .timer .0) 0 && not (isRelease (r .handling)) && isNoNumber (r .number)
+    && eqb (r .kept .0) 0 && eqb (r .timer .0) 0 && not (isRelease (r .handling))
+
+unfoldable pub isBlank : Record → Bool
+isBlank r = areFieldsBlank r && nothingArmed (r .armings) && isNoNumber (r .number)

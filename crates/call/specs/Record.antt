@@ -69,9 +69,13 @@ setOf r = originating
 abbrev pub noTimer : Seconds
 noTimer = record { 0 = 0 }
 
+-- the places of the called number's digits: one more than a number can have digits, since loops over 16 bytes are fast
+abbrev pub places : ℕ
+places = 16
+
 -- the called number: "digit places past the called number's count zero, as Setup and Connect leave them"
 abbrev pub numberOf : ℕ → ℕ → List ℕ → Number
-numberOf nature count digits = record { nature = nature; count = count; digits = pad 15 digits }
+numberOf nature count digits = record { nature = nature; count = count; digits = pad places digits }
 
 -- "A free record is blank: every field zero or none."
 abbrev pub blank : Record

@@ -1,7 +1,7 @@
 // Monitor modes, and the armings of the ten roles (document 01, One call).
 ghost use mathlib.Core.Path.{_≡_};
 ghost use mathlib.Core.List.{[], _∷_};
-ghost use Rattle.call.specs.Armings.{modeNumber, modeOf, isMode, noArmings, modeAt, someArmed, disarmed};
+ghost use Rattle.call.specs.Armings.{modeNumber, modeOf, isMode, noArmings, modeAt, someArmed, nothingArmed, disarmed};
 use crate::roles;
 use crate::roles::Role;
 
@@ -70,6 +70,21 @@ pub(crate) fn some_armed(m: Mode, a: [Arming; 10]) -> bool
         i += 1;
     }
     found
+}
+
+// No point is armed.
+pub(crate) fn nothing_armed(a: [Arming; 10]) -> bool
+    ensures { λ r. ⌜ r ≡ nothingArmed a ⌝ }
+{
+    let mut ok = true;
+    let mut i: usize = 0;
+    while i < 10 {
+        let x = a[i];
+        let y = x.mode;
+        ok = ok & is_mode(y, Mode::None);
+        i += 1;
+    }
+    ok
 }
 
 pub(crate) fn without(p: Role, a: [Arming; 10]) -> [Arming; 10]

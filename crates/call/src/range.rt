@@ -4,7 +4,7 @@ ghost use mathlib.Core.Bool.{cond};
 ghost use lib.Dec.{eqb};
 ghost use Rattle.forms.specs.Fields.{isDigit};
 ghost use Rattle.call.specs.Points.{originating};
-ghost use Rattle.call.specs.Range.{chargeInRange, holdInRange, armingsInRange, placesInRange, numberInRange, recordInRange, isUnused, isUnarmed, isNoNumber, isBlank};
+ghost use Rattle.call.specs.Range.{chargeInRange, holdInRange, armingsInRange, placesInRange, numberInRange, recordInRange, isUnused, areFieldsBlank, isNoNumber, isBlank};
 use crate::armings;
 use crate::armings::*;
 use crate::points;
@@ -53,15 +53,16 @@ fn armings_in_range(a: [Arming; 10]) -> bool
 fn place_in_range(inside: bool, d: u8) -> bool
     ensures { λ b. ⌜ b ≡ cond inside (isDigit d) (eqb d 0) ⌝ }
 {
-    if inside { fields::is_digit(d) } else { d == 0 }
+    let limit = if inside { fields::DIGIT } else { 0 };
+    d <= limit
 }
 
-fn places_in_range(count: u8, digits: [u8; 15]) -> bool
+fn places_in_range(count: u8, digits: [u8; PLACES]) -> bool
     ensures { λ b. ⌜ b ≡ placesInRange count digits ⌝ }
 {
     let mut ok = true;
     let mut i: u8 = 0;
-    while i < 15 {
+    while i < PLACES as u8 {
         let j = i as usize;
         let d = digits[j];
         ok = ok & place_in_range(i < count, d);
@@ -116,10 +117,20 @@ fn is_unused(l: LegState) -> bool
     !record::is_present(presence) & !record::is_pending(clock) & (period.0 == 0) & (start.0 == 0)
 }
 
-fn is_unarmed(a: [Arming; 10]) -> bool
-    ensures { λ b. ⌜ b ≡ isUnarmed a ⌝ }
+// No place is used. The empty ones are counted because LLVM makes vector code of that, and of other shapes code of twice the time.
+fn no_places(digits: [u8; PLACES]) -> bool
+    ensures { λ b. ⌜ b ≡ placesInRange 0 digits ⌝ }
 {
-    !armings::some_armed(Mode::Interrupted, a) & !armings::some_armed(Mode::Notify, a)
+    let mut empty: u32 = 0;
+    let mut i: usize = 0;
+    while i < PLACES {
+        let d = digits[i];
+        if d == 0 {
+            empty += 1;
+        }
+        i += 1;
+    }
+    empty == PLACES as u32
 }
 
 fn is_no_number(n: Number) -> bool
@@ -128,21 +139,19 @@ fn is_no_number(n: Number) -> bool
     let nature = n.nature;
     let count = n.count;
     let digits = n.digits;
-    (nature == 0) & (count == 0) & places_in_range(0, digits)
+    (nature == 0) & (count == 0) & no_places(digits)
 }
 
-// Every field zero or none, as in a free record.
-pub fn is_blank(r: Record) -> bool
-    ensures { λ b. ⌜ b ≡ isBlank r ⌝ }
+// All but the armings and the called number.
+fn are_fields_blank(r: Record) -> bool
+    ensures { λ b. ⌜ b ≡ areFieldsBlank r ⌝ }
 {
     let stage = r.stage;
     let h = r.hold;
     let last = r.last;
-    let a = r.armings;
     let kept = r.kept;
     let timer = r.timer;
     let handling = r.handling;
-    let number = r.number;
     let one = record::leg_at(Leg::One, r);
     let two = record::leg_at(Leg::Two, r);
     stages::is_analysing(stage)
@@ -150,9 +159,22 @@ pub fn is_blank(r: Record) -> bool
         & is_unused(two)
         & !record::is_held(h)
         & (last.0 == 0)
-        & is_unarmed(a)
         & (kept.0 == 0)
         & (timer.0 == 0)
         & !profile::is_release(handling)
-        & is_no_number(number)
+}
+
+// Every field zero or none, as in a free record. The lists come last, so that of a record in use they are not read.
+pub fn is_blank(r: Record) -> bool
+    ensures { λ b. ⌜ b ≡ isBlank r ⌝ }
+{
+    let a = r.armings;
+    let number = r.number;
+    if !are_fields_blank(r) {
+        return false;
+    }
+    if !armings::nothing_armed(a) {
+        return false;
+    }
+    is_no_number(number)
 }

@@ -1,7 +1,7 @@
 // The record of one call (document 01, One call), and records with some fields replaced.
 ghost use mathlib.Core.Path.{_≡_};
 ghost use Rattle.forms.specs.Bytes.{pad};
-ghost use Rattle.call.specs.Record.{leg, charge, noCharge, waiting, running, isPresent, isPending, isHeld, isTrigger, numberOf, blank, made, timed, staged, withLegs, legAt, withLeg};
+ghost use Rattle.call.specs.Record.{leg, charge, noCharge, waiting, running, isPresent, isPending, isHeld, isTrigger, places, numberOf, blank, made, timed, staged, withLegs, legAt, withLeg};
 use crate::armings;
 use crate::armings::Arming;
 use crate::roles::Role;
@@ -43,11 +43,14 @@ pub enum Hold {
     At(Role),
 }
 
+// The places of a called number's digits: one more than it can have digits, since loops over 16 bytes are fast.
+pub const PLACES: usize = 16;
+
 // The called number; the places past the count are zero.
 pub struct Number {
     pub nature: u8,
     pub count: u8,
-    pub digits: [u8; 15],
+    pub digits: [u8; PLACES],
 }
 
 // The fields stand by their size, the largest first and the small enums side by side: a byte between two fields that belongs to none is copied apart, with every copy of a record.
@@ -140,12 +143,12 @@ pub(crate) fn is_trigger(h: Hold) -> bool
     }
 }
 
-// The digits in their 15 places.
-fn places_of(digits: &[u8]) -> [u8; 15]
-    ensures { λ d. ⌜ d ≡ pad 15 (now (digits .entry)) ⌝ }
+// The digits in their places.
+fn places_of(digits: &[u8]) -> [u8; PLACES]
+    ensures { λ d. ⌜ d ≡ pad places (now (digits .entry)) ⌝ }
 {
-    let mut d = [0u8; 15];
-    bytes::copy_in(&mut d, 0, bytes::part_of(digits, 0, 15));
+    let mut d = [0u8; PLACES];
+    bytes::copy_in(&mut d, 0, bytes::part_of(digits, 0, PLACES));
     d
 }
 
@@ -177,7 +180,7 @@ pub fn blank_record() -> Record
         number: Number {
             nature: 0,
             count: 0,
-            digits: [0; 15],
+            digits: [0; PLACES],
         },
         stage: Stage::Analysing,
         hold: Hold::None,

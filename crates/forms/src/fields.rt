@@ -10,7 +10,7 @@ const NATURE: u8 = 127;
 
 pub const MOST_DIGITS: u8 = 15;
 
-const DIGIT: u8 = 14;
+pub const DIGIT: u8 = 14;
 
 const CAUSE: u8 = 127;
 
@@ -35,7 +35,7 @@ pub(crate) fn are_digit_counts(s: &[u8]) -> bool
     bytes::all_within(s, 1, MOST_DIGITS)
 }
 
-pub fn is_digit(d: u8) -> bool
+pub(crate) fn is_digit(d: u8) -> bool
     ensures { λ r. ⌜ r ≡ isDigit d ⌝ }
 {
     bytes::is_within(d, 0, DIGIT)

@@ -15,13 +15,13 @@ use Rattle.forms.specs.declared.item.Body.the-variants as body
 use Rattle.forms.proofs.Cases as forms
 use Rattle.call.specs.declared.answers.Answer.the-variants.{Refused}
 use Rattle.forms.specs.declared.item.Leg.the-variants.{Two}
-use Rattle.call.specs.Armings.{someArmed}
+use Rattle.call.specs.Armings.{someArmed, nothingArmed}
 use Rattle.call.specs.Record.{armedAs, withLeg, leg, running}
 use Rattle.call.specs.Trigger.{triggers}
 use Rattle.call.specs.Request.{entriesOf, areGood, arePossible, armedWith}
 use Rattle.call.specs.Events.{met}
 use Rattle.call.specs.Operations.{continued, aborted}
-use Rattle.call.specs.Range.{placesInRange, numberInRange, inRangeOf, isBlank}
+use Rattle.call.specs.Range.{placesInRange, numberInRange, inRangeOf, areFieldsBlank, isBlank}
 use Rattle.call.specs.Step.{respondIn}
 use Rattle.call.specs.Setup.{openOf}
 use Rattle.call.specs.Alone.{Input, aloneStep}
@@ -170,7 +170,7 @@ shown =
     ++ map (λ (t : List Slot). record { edge = Damage; shown = answers t [] ((tooLong, Refused 1) ∷ (bare (setup 7), Refused 2) ∷ (bare (release 9), Refused 4) ∷ (setup 7, Refused 5) ∷ []) }) sound
 
 pub cases : map (λ (c : Case). computed (c .shown)) shown ≡ map (λ (c : Case). wanted (c .shown)) shown
-unfolding flatten bytes.all contains leads same itemBytes itemInRange restAt bodyFrom bodyOf itemOf isItem readItem entryOf fieldsOf profileBytes profileInRange numbersAt numbersEnd viewAt profileOf isProfile someMatches triggers someArmed entriesOf areGood arePossible armedWith met continued aborted respondIn openOf placesInRange numberInRange inRangeOf isBlank log final next find all fresh once isSound unless store seat setupAt otherAt serve damage tableStep blankSlot earlyOf
+unfolding flatten bytes.all contains leads same itemBytes itemInRange restAt bodyFrom bodyOf itemOf isItem readItem entryOf fieldsOf profileBytes profileInRange numbersAt numbersEnd viewAt profileOf isProfile someMatches triggers someArmed nothingArmed entriesOf areGood arePossible armedWith met continued aborted respondIn openOf placesInRange numberInRange inRangeOf areFieldsBlank isBlank log final next find all fresh once isSound unless store seat setupAt otherAt serve damage tableStep blankSlot earlyOf
 cases = refl
 
 -- ---- two calls by turns, one closed and opened again, and a third that is not open
@@ -202,12 +202,12 @@ codeStep t x = stepAt t x (locateOf (callIn (x .item)) t)
 -- the answers on the table, of each call by itself, and of the code's parts
 pub by-turns : answersIn (log feedStep (fresh ourSlots) items) ∷ answersIn (eachAlone byItself (ofCall ourCall) (ourCall .call) none [] items) ∷ answersIn (log codeStep (fresh ourSlots) items) ∷ []
     ≡ answersIn turns ∷ answersIn turns ∷ answersIn turns ∷ []
-unfolding flatten bytes.all contains leads same itemBytes itemInRange restAt bodyFrom bodyOf itemOf isItem readItem entryOf fieldsOf profileBytes profileInRange numbersAt numbersEnd viewAt profileOf isProfile someMatches triggers someArmed entriesOf areGood arePossible armedWith met continued aborted respondIn openOf placesInRange numberInRange inRangeOf isBlank log final next find all fresh once isSound unless store seat setupAt otherAt serve damage tableStep blankSlot earlyOf eachAlone only consIf aloneStep actedOf
+unfolding flatten bytes.all contains leads same itemBytes itemInRange restAt bodyFrom bodyOf itemOf isItem readItem entryOf fieldsOf profileBytes profileInRange numbersAt numbersEnd viewAt profileOf isProfile someMatches triggers someArmed nothingArmed entriesOf areGood arePossible armedWith met continued aborted respondIn openOf placesInRange numberInRange inRangeOf areFieldsBlank isBlank log final next find all fresh once isSound unless store seat setupAt otherAt serve damage tableStep blankSlot earlyOf eachAlone only consIf aloneStep actedOf
 by-turns = refl
 
 -- what they leave: call 7 in slot 0
 pub left-by-turns : map ownersIn (final feedStep (fresh ourSlots) items ∷ final codeStep (fresh ourSlots) items ∷ []) ≡ map (λ (n : ℕ). some 7 ∷ none ∷ none ∷ none ∷ []) (1 ∷ 2 ∷ [])
-unfolding flatten bytes.all contains leads same itemBytes itemInRange restAt bodyFrom bodyOf itemOf isItem readItem entryOf fieldsOf profileBytes profileInRange numbersAt numbersEnd viewAt profileOf isProfile someMatches triggers someArmed entriesOf areGood arePossible armedWith met continued aborted respondIn openOf placesInRange numberInRange inRangeOf isBlank log final next find all fresh once isSound unless store seat setupAt otherAt serve damage tableStep blankSlot earlyOf actedOf
+unfolding flatten bytes.all contains leads same itemBytes itemInRange restAt bodyFrom bodyOf itemOf isItem readItem entryOf fieldsOf profileBytes profileInRange numbersAt numbersEnd viewAt profileOf isProfile someMatches triggers someArmed nothingArmed entriesOf areGood arePossible armedWith met continued aborted respondIn openOf placesInRange numberInRange inRangeOf areFieldsBlank isBlank log final next find all fresh once isSound unless store seat setupAt otherAt serve damage tableStep blankSlot earlyOf actedOf
 left-by-turns = refl
 
 -- ---- of each call: its items, their answers, and its record in a table (by its kept timer)
@@ -227,7 +227,7 @@ pub of-each-call : map its (7 ∷ 8 ∷ 9 ∷ [])
     ∷ (setup 8 ∷ setup 8 ∷ bare (setup 8) ∷ release 8 ∷ [], triggered ∷ Refused 5 ∷ Refused 2 ∷ ended ∷ [], some 30)
     ∷ (release 9 ∷ [], Refused 4 ∷ [], none)
     ∷ []
-unfolding flatten bytes.all contains leads same itemBytes itemInRange restAt bodyFrom bodyOf itemOf isItem readItem entryOf fieldsOf profileBytes profileInRange numbersAt numbersEnd viewAt profileOf isProfile someMatches triggers someArmed entriesOf areGood arePossible armedWith met continued aborted respondIn openOf placesInRange numberInRange inRangeOf isBlank log final next find all fresh once isSound unless store seat setupAt otherAt serve damage tableStep blankSlot earlyOf only consIf look first
+unfolding flatten bytes.all contains leads same itemBytes itemInRange restAt bodyFrom bodyOf itemOf isItem readItem entryOf fieldsOf profileBytes profileInRange numbersAt numbersEnd viewAt profileOf isProfile someMatches triggers someArmed nothingArmed entriesOf areGood arePossible armedWith met continued aborted respondIn openOf placesInRange numberInRange inRangeOf areFieldsBlank isBlank log final next find all fresh once isSound unless store seat setupAt otherAt serve damage tableStep blankSlot earlyOf only consIf look first
 of-each-call = refl
 
 -- ---- the code's parts: where a call stands, with room and on a full table; one call twice; what is answered on a damaged table
@@ -249,5 +249,5 @@ onDamage = map (λ (x : Input). damagedOf (x .item) (x .profile)) (malformed ∷
 pub parts : (located ≡ spot.Own 0 ∷ spot.Own 1 ∷ spot.Free 2 ∷ spot.Own 63 ∷ spot.Nowhere ∷ [])
     × (areOnce ≡ true ∷ false ∷ [])
     × (onDamage ≡ Refused 1 ∷ Refused 1 ∷ Refused 2 ∷ Refused 3 ∷ Refused 3 ∷ [])
-unfolding flatten bytes.all contains leads same itemBytes itemInRange restAt bodyFrom bodyOf itemOf isItem readItem entryOf fieldsOf profileBytes profileInRange numbersAt numbersEnd viewAt profileOf isProfile someMatches triggers someArmed entriesOf areGood arePossible armedWith met continued aborted respondIn openOf placesInRange numberInRange inRangeOf isBlank log final next find all fresh once isSound unless store seat setupAt otherAt serve damage tableStep blankSlot earlyOf calls among isOnce damagedOf readProfile
+unfolding flatten bytes.all contains leads same itemBytes itemInRange restAt bodyFrom bodyOf itemOf isItem readItem entryOf fieldsOf profileBytes profileInRange numbersAt numbersEnd viewAt profileOf isProfile someMatches triggers someArmed nothingArmed entriesOf areGood arePossible armedWith met continued aborted respondIn openOf placesInRange numberInRange inRangeOf areFieldsBlank isBlank log final next find all fresh once isSound unless store seat setupAt otherAt serve damage tableStep blankSlot earlyOf calls among isOnce damagedOf readProfile
 parts = (refl, refl, refl)

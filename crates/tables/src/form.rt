@@ -1,7 +1,7 @@
 // A slot of the table as 87 bytes, both ways: the form in which the test program takes tables that no run reaches, damaged ones too.
 // Numbers are big-endian. Each field has a fixed place, so that any value which a slot can hold has a form:
 //   0 owner (0 free, 1 a call), 1 call (4), 5 stage, 6 leg 1, 24 leg 2, 42 hold, 43 last time (8), 51 ten armings,
-//   61 kept timer (4), 65 default timer (4), 69 default handling, 70 called number: nature, count, 15 digits
+//   61 kept timer (4), 65 default timer (4), 69 default handling, 70 called number: nature, count, 15 digits (the 16th place is zero)
 // A leg: presence, clock of its charge (0 none, 1 waiting, 2 running), period (8), start (8). Enums are numbered as they are declared; a hold at a role is 2 more than the role's place.
 ghost use Prim.Native.Nat.{_<_};
 use call::armings::*;
@@ -110,7 +110,7 @@ fn handling_of(b: u8) -> Handling {
 
 fn number_at(s: &[u8], at: usize) -> Number {
     let t = bytes::from(s, at);
-    let mut digits = [0u8; 15];
+    let mut digits = [0u8; PLACES];
     put_bytes(&mut digits, 0, bytes::part_of(t, 2, 15));
     Number {
         nature: bytes::at(t, 0),
@@ -299,7 +299,7 @@ fn put_number(d: &mut [u8], number: Number) {
     put(d, 70, number.nature);
     put(d, 71, number.count);
     let digits = number.digits;
-    put_bytes(d, 72, &digits);
+    put_bytes(d, 72, bytes::part_of(&digits, 0, 15));
 }
 
 fn put_state(d: &mut [u8], r: Record) {

@@ -6,16 +6,17 @@ use native.Mathlib.Nat.{sub-zero}
 use native.Mathlib.Omega.{arith}
 use borrow.Author.Needs.{needs}
 use lib.ListN.{length, drop}
+use Rattle.call.specs.Record.{places}
 use Rattle.call.specs.Range.{placesInRange}
 use Rattle.call.proofs.Laws.{places-step, places-end}
 use Rattle.call.proofs.range.places_in_range.Statement.{statement}
 use Rattle.call.proofs.range.places_in_range.Tie as tie
 
 abbrev Inv-loop : tie.InvT-loop
-Inv-loop count digits ok₀ i₀ ok i = (i ≤ 15) × (length digits ≡ 15) × ((ok && placesInRange (count - i) (drop i digits)) ≡ placesInRange count digits)
+Inv-loop count digits ok₀ i₀ ok i = (i ≤ places) × (length digits ≡ places) × ((ok && placesInRange (count - i) (drop i digits)) ≡ placesInRange count digits)
 
 abbrev μ-loop : tie.MeasureT-loop
-μ-loop count digits ok₀ i₀ ok i = 15 - i
+μ-loop count digits ok₀ i₀ ok i = places - i
 
 loop-again : tie.Need-loop-again Inv-loop μ-loop
 loop-again c =
@@ -32,4 +33,4 @@ returns c =
 pub places-in-range-spec : {M : Type 1} → statement M
 places-in-range-spec =
     tie.close
-    (tie.spec Inv-loop μ-loop (λ c. (search needs, search needs, rw sub-zero)) (λ c. omega arith) (λ c. omega arith) (λ c κs. search needs) (λ c. omega arith) (λ c. omega arith) loop-again returns)
+    (tie.spec Inv-loop μ-loop (λ c. (search needs, search needs, rw sub-zero)) (λ c. omega arith) (λ c. omega arith) (λ c. omega arith) (λ c κs. search needs) (λ c. omega arith) (λ c. omega arith) loop-again returns)

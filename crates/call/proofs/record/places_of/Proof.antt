@@ -3,14 +3,15 @@ use borrow.Author.Needs.{needs}
 use native.Mathlib.Omega.{arith}
 use lib.ListN.{length-take}
 use Rattle.forms.proofs.ByteLaws.{pad-cut}
+use Rattle.call.specs.Record.{places}
 use Rattle.call.proofs.record.places_of.Statement.{statement}
 use Rattle.call.proofs.record.places_of.Tie as tie
 
 copy-in-requires : tie.Need-copy-in-requires
-copy-in-requires c κs = rw (c .part-of .ensures) (omega (arith, length-take 15 (c .before .before .before .args .digits .now)))
+copy-in-requires c κs = rw (c .part-of .ensures) (omega (arith, length-take places (c .before .before .before .args .digits .now)))
 
 returns : tie.Need-returns
-returns c = rw (c .before .copy-in .ensures, c .before .before .part-of .ensures) (pad-cut 15 (c .before .before .before .before .before .args .digits .now))
+returns c = rw (c .before .copy-in .ensures, c .before .before .part-of .ensures) (pad-cut places (c .before .before .before .before .before .args .digits .now))
 
 pub places-of-spec : {M : Type 1} → statement M
 places-of-spec =
