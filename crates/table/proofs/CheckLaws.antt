@@ -1,5 +1,5 @@
 -- The check for refusal 3: 'one call twice' over the calls that own slots, and what a pass over the slots has found out so far.
-use Prim.Native.Nat.{ℕ, suc, _+_, _≤_, _<_}
+use Prim.Native.Nat.{ℕ, zero, suc, _+_, _-_, _%_, _≤_, _<_}
 use native.Mathlib.Omega.{arith}
 use native.Mathlib.Nat.{add-zero}
 use native.Mathlib.Numerals.{add-one}
@@ -8,9 +8,9 @@ use mathlib.Core.Bool.{Bool, true, false, cond, not, _&&_, _||_, and-assoc, and-
 use mathlib.Core.List.{List, [], _∷_, _++_, append-assoc, append-nil}
 use mathlib.Core.Option.{Option, none, some}
 use lib.Dec.{eqb}
-use lib.ListN.{length, getD, set, take, drop, drop-of-length-le}
-use lib.Seq.{drop-cons, take-set-le, take-suc-set}
-use borrow.Author.Tests.{eq-eqb, ne-eqb}
+use lib.ListN.{length, length-set, getD, set, take, drop, drop-of-length-le}
+use lib.Seq.{drop-length, drop-cons, getD-set-same, getD-set-other, take-set-le, take-suc-set}
+use borrow.Author.Tests.{eq-eqb, ne-eqb, eqb-true, eqb-false}
 use Rattle.table.specs.Types.{Slot}
 use Rattle.table.specs.Table.{next, find, all, isNone, isCall, owns, isSoundSlot, absent, once, isSound}
 use Rattle.table.specs.Slot.{ourSlots, ownerOf, blankSlot}
@@ -27,15 +27,48 @@ module _ (k : ℕ) (l : List ℕ) (i : ℕ) (hit : Bool) where
   unfolding among
   among-end h = rw (drop-of-length-le l h) (or-false hit)
 
-module _ (l : List ℕ) (i : ℕ) where
-  -- b: does the call at i stand further on?
-  pub once-on : i < length l → {b : Bool} → among (getD l i 0) (drop (i + 1) l) ≡ b → isOnce (drop i l) ≡ cond b false (isOnce (drop (i + 1) l))
-  unfolding isOnce
-  once-on h e = rw (← e, add-one, drop-cons l i 0)
+-- a call that stands twice from place i on
+once-from : (l : List ℕ) (i : ℕ) → isOnce (drop i l) ≡ false → isOnce l ≡ false
+unfolding isOnce
+once-from l zero e = e
+once-from [] (suc i) e = e
+once-from (k ∷ l) (suc i) e = rw (once-from l i e) (same (among k l))
+  where
+    same : (b : Bool) → cond b false false ≡ false
+    same true = refl
+    same false = refl
 
-  pub once-end : length l ≤ i → isOnce (drop i l) ≡ true
+-- from the last call of l to the first: of those from place i on each has its mark in m, and none stands twice
+pub record Searched (l : List ℕ) (m : List Bool) (i : ℕ) : Type 0 where
+  pub within : i ≤ length l
+  pub size : length m ≡ 256
+  pub unmarked : (k : ℕ) → getD m (k % 256) false ≡ false → among k (drop i l) ≡ false
+  pub once : isOnce (drop i l) ≡ true
+
+pub searched-none : (l : List ℕ) (m : List Bool) → length m ≡ 256 → Searched l m (length l)
+unfolding among isOnce
+searched-none l m h = record { within = omega arith; size = h; unmarked = λ k e. rw (drop-length l); once = rw (drop-length l) }
+
+module _ {l : List ℕ} {m : List Bool} {i : ℕ} (s : Searched l m i) (p : 0 < i) where
+  this : drop (i - 1) l ≡ getD l (i - 1) 0 ∷ drop i l
+  this = let e : suc (i - 1) ≡ i = omega arith in rw e at (drop-cons l (i - 1) 0 (omega arith))
+
+  pub searched-twice : among (getD l (i - 1) 0) (drop i l) ≡ true → isOnce l ≡ false
   unfolding isOnce
-  once-end h = rw (drop-of-length-le l h)
+  searched-twice e = once-from l (i - 1) (rw (this, e))
+
+  pub searched-on : among (getD l (i - 1) 0) (drop i l) ≡ false → Searched l (set m (getD l (i - 1) 0 % 256) true) (i - 1)
+  unfolding among isOnce
+  searched-on e = record { within = omega arith; size = simp length-set (s .size); unmarked = λ k. rw this (go k (eqb (k % 256) h) refl); once = rw (this, e) (s .once) }
+    where
+      h : ℕ
+      h = getD l (i - 1) 0 % 256
+
+      go : (k : ℕ) (b : Bool) → eqb (k % 256) h ≡ b → getD (set m h true) (k % 256) false ≡ false → eqb (getD l (i - 1) 0) k || among k (drop i l) ≡ false
+      go k true q f = cc (eqb-true (k % 256) h q, getD-set-same m h true false (omega arith))
+      go k false q f =
+          let n = eqb-false (k % 256) h q in
+          rw (ne-eqb (getD l (i - 1) 0) k (λ r. n (ap (λ x. x % 256) (sym r)))) (s .unmarked k (sym (getD-set-other m h (k % 256) true false n) ∙ f))
 
 -- ---- no call owns two slots exactly if none stands twice among the calls
 
