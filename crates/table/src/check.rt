@@ -85,14 +85,15 @@ pub fn is_sound(table: &[Slot]) -> bool
     }
     let mut calls = [0u32; 64];
     let mut n = 0;
-    let mut ok = true;
     let mut i = 0;
     while i < 64 {
         let slot = table[i];
+        if !is_sound_slot(slot) {
+            return false;
+        }
         calls[n] = call_of(slot);
         n += count_of(slot);
-        ok = ok & is_sound_slot(slot);
         i += 1;
     }
-    ok & is_once(&calls[..n])
+    is_once(&calls[..n])
 }
