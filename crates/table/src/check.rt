@@ -56,17 +56,22 @@ fn is_repeated(l: &[u32], from: usize, k: u32) -> bool
     hit
 }
 
-// No call twice.
+// No call twice. From the last to the first; a call is looked for among those behind it only where a mark says that it may stand there: marks are by call % 256.
 fn is_once(l: &[u32]) -> bool
     ensures { λ b. ⌜ b ≡ isOnce (now (l .entry)) ⌝ }
 {
-    let mut i = 0;
-    while i < l.len() {
-        let k = l[i];
-        if is_repeated(l, i + 1, k) {
-            return false;
+    let mut seen = [false; 256];
+    let mut i = l.len();
+    while 0 < i {
+        let k = l[i - 1];
+        let h = (k % 256) as usize;
+        if seen[h] {
+            if is_repeated(l, i, k) {
+                return false;
+            }
         }
-        i += 1;
+        seen[h] = true;
+        i -= 1;
     }
     true
 }
@@ -80,14 +85,15 @@ pub fn is_sound(table: &[Slot]) -> bool
     }
     let mut calls = [0u32; 64];
     let mut n = 0;
-    let mut ok = true;
     let mut i = 0;
     while i < 64 {
         let slot = table[i];
+        if !is_sound_slot(slot) {
+            return false;
+        }
         calls[n] = call_of(slot);
         n += count_of(slot);
-        ok = ok & is_sound_slot(slot);
         i += 1;
     }
-    ok & is_once(&calls[..n])
+    is_once(&calls[..n])
 }
