@@ -39,7 +39,7 @@ use Rattle.call.specs.Kind.{kindOf}
 use Rattle.call.specs.Range.{recordInRange}
 use Rattle.call.specs.Refusals.{row1Time, rowsOf}
 use Rattle.call.specs.Step.{served, respondIn, respondOf, stepOf}
-use Rattle.call.proofs.Laws.{on-cond}
+use Rattle.call.proofs.Laws.{on-cond, armed-in}
 use Rattle.call.proofs.PointLaws.{every-same, below, disarm-these, disarmed-length, isPast, answer-row, lost-leg, busy-leg}
 
 -- ---- relationship
@@ -47,18 +47,6 @@ use Rattle.call.proofs.PointLaws.{every-same, below, disarm-these, disa
 -- not held, nothing armed, no charge pending
 abbrev pub isIdle : Record → Bool
 isIdle r = not (isHeld (r .hold)) && nothingArmed (r .armings) && not (isPending (r .clock1)) && not (isPending (r .clock2))
-
--- an armed point is armed in mode 0 or in mode 1
-armed-in : (l : List Arming) → nothingArmed l ≡ (not (someArmed mode.Interrupted l) && not (someArmed mode.Notify l))
-unfolding nothingArmed someArmed
-armed-in [] = refl
-armed-in (a ∷ l) = go (a .mode) (armed-in l)
-  where
-    go : (m : Mode) → nothingArmed l ≡ (not (someArmed mode.Interrupted l) && not (someArmed mode.Notify l))
-        → (isMode m mode.None && nothingArmed l) ≡ (not (isMode m mode.Interrupted || someArmed mode.Interrupted l) && not (isMode m mode.Notify || someArmed mode.Notify l))
-    go mode.None h = h
-    go mode.Interrupted h = refl
-    go mode.Notify h = sym (and-false (not (someArmed mode.Interrupted l)))
 
 -- control and monitor are not none
 related : (x : Relationship) → isRelated x ≡ true → (x ≡ relationship.None) ↔ (false ≡ true)

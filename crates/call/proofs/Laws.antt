@@ -1,7 +1,7 @@
 -- Laws of tests and of the loops, for the proofs of the functions and for the theorems.
 use Prim.Native.Nat.{ℕ, zero, suc, _+_, _-_, _*_, _≤_, _<_}
-use mathlib.Core.Path.{_≡_, refl, sym, ap}
-use mathlib.Core.Bool.{Bool, true, false, cond, _&&_, _||_, and-true, and-false, and-assoc, or-false, false≢true}
+use mathlib.Core.Path.{_≡_, refl, sym, ap, _∙_}
+use mathlib.Core.Bool.{Bool, true, false, not, cond, _&&_, _||_, and-true, and-false, and-assoc, or-false, false≢true}
 use mathlib.Core.List.{List, [], _∷_, _++_}
 use native.Mathlib.Numerals.{add-one}
 use native.Mathlib.Nat.{sub-eq-zero-of-le}
@@ -15,7 +15,7 @@ use Rattle.forms.specs.Bytes.{pad}
 use Rattle.forms.specs.Item.{formOf, restInRange, itemInRange, entryOf}
 use Rattle.forms.specs.Profile.{viewOf, profileOf, isProfile, readProfile}
 use Rattle.forms.specs.Units.{clockEnd}
-use Rattle.call.specs.Types.{Entry, Item, Tenths, PointSet, Mode, Arming, Named, Record, Check}
+use Rattle.call.specs.Types.{Entry, Item, Tenths, PointSet, Mode, Arming, Named, Record, Relationship, Check}
 use Rattle.forms.specs.declared.profile.ProfileView.{ProfileView}
 use Rattle.forms.specs.declared.profile.ReadProfile.the-variants.{Profile, Refused}
 use Rattle.forms.proofs.ByteLaws.{and-left, and-right}
@@ -23,8 +23,10 @@ use Rattle.forms.proofs.ItemLaws.{item-size}
 use Rattle.call.specs.declared.armings.Mode.the-variants as mode
 use Rattle.call.specs.declared.refusals.Check.the-variants.{Pass, Fail}
 use Rattle.call.specs.declared.points.Named.the-variants.{Unknown, Known}
-use Rattle.call.specs.Armings.{unarmed, isMode, someArmed, nothingArmed}
-use Rattle.call.specs.Record.{armedAs}
+use Rattle.call.specs.declared.relationship.Relationship.the-variants as relationship
+use Rattle.call.specs.Armings.{unarmed, isMode, someArmed, nothingArmed, stronger, strongest}
+use Rattle.call.specs.Record.{isPending, isHeld, armedAs}
+use Rattle.call.specs.Relationship.{relationshipOf}
 use Rattle.call.specs.Answers.{Row, row, firstOf}
 use Rattle.call.specs.Request.{entriesOf, named, isGood, placeNamed, seenAfter, areGood, isPossible, arePossible, armingAfter, keptFor, armedBy, armedWith}
 use Rattle.call.specs.Range.{placesInRange}
@@ -110,25 +112,77 @@ time-fits i rest h = and-right (allInRange (formOf (i .body) .fields) && restInR
 pub item-fits : (i : Item) (rest : List ℕ) → itemInRange i rest ≡ true → (i .time .0 < clockEnd) × (length rest < 256)
 item-fits i rest h = (ltb-true _ _ (time-fits i rest h), omega (arith, item-size i rest h))
 
--- ---- loops over armings: what was found, and what is left
+-- ---- the strongest mode that is armed
 
-pub armed-step : (m : Mode) (a : List Arming) (i : ℕ) (found : Bool) → i < length a
-    → (found || isMode (getD a i unarmed .mode) m || someArmed m (drop (i + 1) a)) ≡ (found || someArmed m (drop i a))
-unfolding someArmed
-armed-step m a i true h = refl
-armed-step m a i false h = rw (add-one, drop-cons a i unarmed h)
+-- in a loop: the strongest so far, and the armings that are left
+pub strongest-step : (a : List Arming) (i : ℕ) (m : Mode) → i < length a → strongest (stronger m (getD a i unarmed .mode)) (drop (i + 1) a) ≡ strongest m (drop i a)
+unfolding strongest
+strongest-step a i m h = rw (add-one, drop-cons a i unarmed h)
 
-pub armed-end : (m : Mode) (a : List Arming) (i : ℕ) (found : Bool) → length a ≤ i → (found || someArmed m (drop i a)) ≡ found
-unfolding someArmed
-armed-end m a i found h = rw (drop-of-length-le a h, or-false)
+pub strongest-end : (a : List Arming) (i : ℕ) (m : Mode) → length a ≤ i → strongest m (drop i a) ≡ m
+unfolding strongest
+strongest-end a i m h = rw (drop-of-length-le a h)
 
-pub unarmed-step : (a : List Arming) (i : ℕ) (ok : Bool) → i < length a → (ok && isMode (getD a i unarmed .mode) mode.None && nothingArmed (drop (i + 1) a)) ≡ (ok && nothingArmed (drop i a))
-unfolding nothingArmed
-unarmed-step a i ok h = rw (and-assoc, add-one, drop-cons a i unarmed h)
+-- by whether some point is armed in mode 0, and in mode 1
+abbrev ofArmed : Bool → Bool → Mode
+ofArmed true notify = mode.Interrupted
+ofArmed false true = mode.Notify
+ofArmed false false = mode.None
 
-pub unarmed-end : (a : List Arming) (i : ℕ) (ok : Bool) → length a ≤ i → (ok && nothingArmed (drop i a)) ≡ ok
-unfolding nothingArmed
-unarmed-end a i ok h = rw (drop-of-length-le a h, and-true)
+strongest-of : (l : List Arming) (m : Mode) → strongest m l ≡ ofArmed (isMode m mode.Interrupted || someArmed mode.Interrupted l) (isMode m mode.Notify || someArmed mode.Notify l)
+unfolding strongest someArmed
+strongest-of [] mode.None = refl
+strongest-of [] mode.Notify = refl
+strongest-of [] mode.Interrupted = refl
+strongest-of (a ∷ l) m = strongest-of l (stronger m (a .mode)) ∙ go m (a .mode) (someArmed mode.Interrupted l) (someArmed mode.Notify l)
+  where
+    go : (m n : Mode) (i k : Bool)
+        → ofArmed (isMode (stronger m n) mode.Interrupted || i) (isMode (stronger m n) mode.Notify || k) ≡ ofArmed (isMode m mode.Interrupted || (isMode n mode.Interrupted || i)) (isMode m mode.Notify || (isMode n mode.Notify || k))
+    go mode.None mode.None i k = refl
+    go mode.None mode.Notify i k = refl
+    go mode.None mode.Interrupted i k = refl
+    go mode.Notify mode.None i k = refl
+    go mode.Notify mode.Notify i k = refl
+    go mode.Notify mode.Interrupted i k = refl
+    go mode.Interrupted mode.None i k = refl
+    go mode.Interrupted mode.Notify i k = refl
+    go mode.Interrupted mode.Interrupted i k = refl
+
+-- so it tells the relationship
+abbrev byMode : Record → Mode → Relationship
+byMode r m = cond (isHeld (r .hold) || isMode m mode.Interrupted) relationship.Control (cond (isMode m mode.Notify || (isPending (r .clock1) || isPending (r .clock2))) relationship.Monitor relationship.None)
+
+pub relationship-by : (r : Record) → byMode r (strongest mode.None (r .armings)) ≡ relationshipOf r
+relationship-by r = rw (strongest-of (r .armings) mode.None) (go (isHeld (r .hold)) (someArmed mode.Interrupted (r .armings)) (someArmed mode.Notify (r .armings)) (isPending (r .clock1) || isPending (r .clock2)))
+  where
+    go : (held i k pending : Bool)
+        → cond (held || isMode (ofArmed i k) mode.Interrupted) relationship.Control (cond (isMode (ofArmed i k) mode.Notify || pending) relationship.Monitor relationship.None)
+        ≡ cond (held || i) relationship.Control (cond (k || pending) relationship.Monitor relationship.None)
+    go true i k pending = refl
+    go false true k pending = refl
+    go false false true pending = refl
+    go false false false pending = refl
+
+-- an armed point is armed in mode 0 or in mode 1
+pub armed-in : (l : List Arming) → nothingArmed l ≡ (not (someArmed mode.Interrupted l) && not (someArmed mode.Notify l))
+unfolding nothingArmed someArmed
+armed-in [] = refl
+armed-in (a ∷ l) = go (a .mode) (armed-in l)
+  where
+    go : (m : Mode) → nothingArmed l ≡ (not (someArmed mode.Interrupted l) && not (someArmed mode.Notify l))
+        → (isMode m mode.None && nothingArmed l) ≡ (not (isMode m mode.Interrupted || someArmed mode.Interrupted l) && not (isMode m mode.Notify || someArmed mode.Notify l))
+    go mode.None h = h
+    go mode.Interrupted h = refl
+    go mode.Notify h = sym (and-false (not (someArmed mode.Interrupted l)))
+
+-- and nothing is where the strongest mode is none
+pub nothing-by : (l : List Arming) → isMode (strongest mode.None l) mode.None ≡ nothingArmed l
+nothing-by l = rw (strongest-of l mode.None, armed-in l) (go (someArmed mode.Interrupted l) (someArmed mode.Notify l))
+  where
+    go : (i k : Bool) → isMode (ofArmed i k) mode.None ≡ (not i && not k)
+    go true k = refl
+    go false true = refl
+    go false false = refl
 
 -- ---- loops over the places of a number
 

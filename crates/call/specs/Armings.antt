@@ -2,7 +2,7 @@
 use Prim.Native.Nat.{ℕ}
 use mathlib.Core.List.{List, [], _∷_}
 use mathlib.Core.Bool.{Bool, true, false, cond, _&&_, _||_}
-use lib.Dec.{eqb}
+use lib.Dec.{eqb, ltb}
 use lib.ListN.{getD, set, replicate}
 use Rattle.call.specs.Types.{Role, Mode, Arming}
 use Rattle.call.specs.declared.armings.Mode.the-variants as mode
@@ -42,3 +42,18 @@ nothingArmed (a ∷ l) = isMode (a .mode) mode.None && nothingArmed l
 abbrev pub disarmed : List Role → List Arming → List Arming
 disarmed [] l = l
 disarmed (p ∷ ps) l = disarmed ps (set l (placeOf p) unarmed)
+
+-- ---- only for the code's shape: one pass says which modes are armed, since interrupted goes before notify, and that before none
+
+abbrev pub strength : Mode → ℕ
+strength mode.None = 0
+strength mode.Notify = 1
+strength mode.Interrupted = 2
+
+abbrev pub stronger : Mode → Mode → Mode
+stronger m n = cond (ltb (strength m) (strength n)) n m
+
+-- of m and the modes of the armings
+unfoldable pub strongest : Mode → List Arming → Mode
+strongest m [] = m
+strongest m (a ∷ l) = strongest (stronger m (a .mode)) l

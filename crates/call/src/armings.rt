@@ -1,15 +1,16 @@
 // Monitor modes, and the armings of the ten roles (document 01, One call).
 ghost use mathlib.Core.Path.{_≡_};
 ghost use mathlib.Core.List.{[], _∷_};
-ghost use Rattle.call.specs.Armings.{modeNumber, modeOf, isMode, noArmings, modeAt, someArmed, nothingArmed, disarmed};
+ghost use Rattle.call.specs.Armings.{modeNumber, modeOf, isMode, noArmings, modeAt, nothingArmed, disarmed, strength, stronger, strongest};
+ghost use Rattle.call.specs.declared.armings.Mode.the-variants as mode;
 use crate::roles;
 use crate::roles::Role;
 
 // The monitor mode of an armed point: interrupted is 0, notify and continue 1.
 pub enum Mode {
     None,
-    Interrupted,
     Notify,
+    Interrupted,
 }
 
 pub struct Arming {
@@ -57,34 +58,43 @@ pub(crate) fn mode_at(p: Role, a: [Arming; 10]) -> Mode
     x.mode
 }
 
-// Some point is armed in the mode.
-pub(crate) fn some_armed(m: Mode, a: [Arming; 10]) -> bool
-    ensures { λ r. ⌜ r ≡ someArmed m a ⌝ }
+fn strength(m: Mode) -> u8
+    ensures { λ r. ⌜ r ≡ strength m ⌝ }
 {
-    let mut found = false;
+    match m {
+        Mode::None => 0,
+        Mode::Notify => 1,
+        Mode::Interrupted => 2,
+    }
+}
+
+fn stronger(m: Mode, n: Mode) -> Mode
+    ensures { λ r. ⌜ r ≡ stronger m n ⌝ }
+{
+    if strength(m) < strength(n) { n } else { m }
+}
+
+// The strongest mode that is armed, which tells the relationship, in one pass. (LLVM makes a vector's maximum of it, as the modes stand by their strength.)
+pub(crate) fn strongest(a: [Arming; 10]) -> Mode
+    ensures { λ r. ⌜ r ≡ strongest mode.None a ⌝ }
+{
+    let mut m = Mode::None;
     let mut i: usize = 0;
     while i < 10 {
         let x = a[i];
-        let y = x.mode;
-        found = found | is_mode(y, m);
+        let n = x.mode;
+        let next = stronger(m, n);
+        m = next;
         i += 1;
     }
-    found
+    m
 }
 
 // No point is armed.
 pub(crate) fn nothing_armed(a: [Arming; 10]) -> bool
     ensures { λ r. ⌜ r ≡ nothingArmed a ⌝ }
 {
-    let mut ok = true;
-    let mut i: usize = 0;
-    while i < 10 {
-        let x = a[i];
-        let y = x.mode;
-        ok = ok & is_mode(y, Mode::None);
-        i += 1;
-    }
-    ok
+    is_mode(strongest(a), Mode::None)
 }
 
 pub(crate) fn without(p: Role, a: [Arming; 10]) -> [Arming; 10]

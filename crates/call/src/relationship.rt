@@ -17,12 +17,13 @@ pub(crate) fn relationship_of(r: Record) -> Relationship
 {
     let h = r.hold;
     let a = r.armings;
-    if record::is_held(h) | armings::some_armed(Mode::Interrupted, a) {
+    let m = armings::strongest(a);
+    if record::is_held(h) | armings::is_mode(m, Mode::Interrupted) {
         return Relationship::Control;
     }
     let clock1 = r.clock1;
     let clock2 = r.clock2;
-    if armings::some_armed(Mode::Notify, a)
+    if armings::is_mode(m, Mode::Notify)
         | (record::is_pending(clock1) | record::is_pending(clock2))
     {
         return Relationship::Monitor;
