@@ -69,7 +69,7 @@ setOf r = originating
 abbrev pub noTimer : Seconds
 noTimer = record { 0 = 0 }
 
--- the places of the called number's digits: one more than a number can have digits, since loops over 16 bytes are fast
+-- the places for the called number's digits, which are at most 15
 abbrev pub places : ℕ
 places = 16
 

@@ -117,7 +117,7 @@ fn is_unused(l: LegState) -> bool
     !record::is_present(presence) & !record::is_pending(clock) & (period.0 == 0) & (start.0 == 0)
 }
 
-// No place is used. The empty ones are counted because LLVM makes vector code of that, and of other shapes code of twice the time.
+// No place is used. The empty ones are counted: measured, other loops take twice the time.
 fn no_places(digits: [u8; PLACES]) -> bool
     ensures { λ b. ⌜ b ≡ placesInRange 0 digits ⌝ }
 {
@@ -164,7 +164,7 @@ fn are_fields_blank(r: Record) -> bool
         & !profile::is_release(handling)
 }
 
-// Every field zero or none, as in a free record. The lists come last, so that of a record in use they are not read.
+// Every field zero or none, as in a free record. A record in use mostly leaves at the first test.
 pub fn is_blank(r: Record) -> bool
     ensures { λ b. ⌜ b ≡ isBlank r ⌝ }
 {

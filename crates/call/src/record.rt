@@ -43,7 +43,7 @@ pub enum Hold {
     At(Role),
 }
 
-// The places of a called number's digits: one more than it can have digits, since loops over 16 bytes are fast.
+// The places for a called number's digits: one more than it can have, since 16 bytes make one vector.
 pub const PLACES: usize = 16;
 
 // The called number; the places past the count are zero.

@@ -1,7 +1,7 @@
 // A slot of the table as 87 bytes, both ways: the form in which the test program takes tables that no run reaches, damaged ones too.
-// Numbers are big-endian. Each field has a fixed place, so that any value which a slot can hold has a form:
+// Numbers are big-endian. Each field has a fixed place, so that any value which a slot can hold has a form, but for the called number's 16th place, which is zero here:
 //   0 owner (0 free, 1 a call), 1 call (4), 5 stage, 6 leg 1, 24 leg 2, 42 hold, 43 last time (8), 51 ten armings,
-//   61 kept timer (4), 65 default timer (4), 69 default handling, 70 called number: nature, count, 15 digits (the 16th place is zero)
+//   61 kept timer (4), 65 default timer (4), 69 default handling, 70 called number: nature, count, 15 digits
 // A leg: presence, clock of its charge (0 none, 1 waiting, 2 running), period (8), start (8). Enums are numbered as they are declared, but for the modes (1 interrupted, 2 notify); a hold at a role is 2 more than the role's place.
 ghost use Prim.Native.Nat.{_<_};
 use call::armings::*;
