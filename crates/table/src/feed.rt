@@ -16,7 +16,7 @@ use forms::item;
 use forms::item::*;
 
 // On a sound table, an item that was read, and what came early of it: its call is found and served, and stored where it was accepted.
-pub(crate) fn serve(table: &mut [Slot], item: Item, rest: &[u8], early: Early) -> Answer
+pub(crate) fn serve_item(table: &mut [Slot], item: Item, rest: &[u8], early: Early) -> Answer
     requires { ⌜ length (now table) ≡ 64 ⌝ }
     ensures { λ a. ⌜ (a, now (table .exit)) ≡ servedOf (now (table .entry)) item (now (rest .entry)) early ⌝ }
 {
@@ -41,7 +41,7 @@ pub fn feed_sound(table: &mut [Slot], item: &[u8], profile: &[u8]) -> Answer
         ReadItem::Item(i, at) => {
             let rest = bytes::from(item, at);
             let early = setup::early_of(i, rest, profile);
-            serve(table, i, rest, early)
+            serve_item(table, i, rest, early)
         }
         ReadItem::Refused(n) => Answer::Refused(n),
     }
@@ -56,7 +56,7 @@ pub(crate) fn feed_read(table: &mut [Slot], item: Item, rest: &[u8], profile: &[
         Early::Refused(n) => Answer::Refused(n),
         _ => {
             if check::is_sound(table) {
-                serve(table, item, rest, early)
+                serve_item(table, item, rest, early)
             } else {
                 Answer::Refused(3)
             }
