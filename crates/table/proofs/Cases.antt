@@ -28,11 +28,11 @@ use Rattle.call.specs.Alone.{Input, aloneStep}
 use Rattle.call.proofs.Cases as call
 use Rattle.table.specs.declared.slot.Owner.the-variants.{Free}
 use Rattle.table.specs.declared.lookup.Spot.the-variants as spot
-use Rattle.table.specs.Types.{ReadItem, Record, Answer, Slot, Spot}
+use Rattle.table.specs.Types.{Item, ReadItem, Record, Answer, Slot, Spot}
 use Rattle.table.specs.Runs.{consIf, only, log, final, eachAlone}
 use Rattle.table.specs.Table.{ofCall, next, find, all, first, look, fresh, once, isSound, unless, store, seat, setupAt, otherAt, serve, damage, tableStep}
 use Rattle.table.specs.Slot.{ownerOf, ownedBy, blankSlot, ourSlots}
-use Rattle.table.specs.Feed.{itemIn, restIn, ourCall, feedStep}
+use Rattle.table.specs.Feed.{itemIn, restIn, ourCall, feedStep, feedItemOf}
 use Rattle.table.specs.Independence.{itemsOf, linesOf}
 use Rattle.table.specs.Check.{calls, among, isOnce}
 use Rattle.table.specs.Lookup.{locateOf}
@@ -172,6 +172,18 @@ shown =
 pub cases : map (λ (c : Case). computed (c .shown)) shown ≡ map (λ (c : Case). wanted (c .shown)) shown
 unfolding flatten bytes.all contains leads same itemBytes itemInRange restAt bodyFrom bodyOf itemOf isItem readItem entryOf fieldsOf profileBytes profileInRange numbersAt numbersEnd viewAt profileOf isProfile someMatches triggers someArmed entriesOf areGood arePossible armedWith met continued aborted respondIn earlyOf setUpOf openOf placesInRange numberInRange inRangeOf isBlank log final next find all fresh once isSound unless store seat setupAt otherAt serve damage tableStep blankSlot
 cases = refl
+
+-- ---- a Setup that is handed in as a value, on a fresh table and on a damaged one; a time past the last clock reading would be written as 1000
+
+abbrev valueAt : ℕ → Item
+valueAt time = record { call = 7; time = record { 0 = time }; body = body.Setup 4 0 false 1 }
+
+abbrev fedAt : ℕ → List Answer
+fedAt time = map (λ (t : List Slot). feedItemOf t (valueAt time) (4 ∷ []) plain .0) (fresh ourSlots ∷ drop 1 (fresh ourSlots) ∷ [])
+
+pub as-values : map fedAt (1000 ∷ 281474976711656 ∷ []) ≡ (triggered ∷ Refused 3 ∷ []) ∷ (Refused 1 ∷ Refused 1 ∷ []) ∷ []
+unfolding flatten bytes.all contains leads same itemBytes itemInRange restAt bodyFrom bodyOf itemOf isItem readItem entryOf fieldsOf profileBytes profileInRange numbersAt numbersEnd viewAt profileOf isProfile someMatches triggers someArmed entriesOf areGood arePossible armedWith met continued aborted respondIn earlyOf setUpOf openOf placesInRange numberInRange inRangeOf isBlank log final next find all fresh once isSound unless store seat setupAt otherAt serve damage tableStep blankSlot
+as-values = refl
 
 -- ---- two calls by turns, one closed and opened again, and a third that is not open
 
