@@ -6,7 +6,8 @@ and is not lent itself; their derivations are made. In the surrogate
     a made function of the crate stands as in the source, but calls another made one, G, as G_0, so as not to wait for its proof;
     a function that these call is a stub: it has the same signature and answers any value;
     a contract has as many clauses, each of which says nothing: the derivation looks at their number alone;
-    a type has its name, its kind and its module, and its fields only where a made function looks at them; a constant is as in the source.
+    a type has its name, its kind and its module, and its fields only where a made function looks at them, then with all that is in them, since
+    the places of fields go by their sizes; a constant is as in the source.
 The array has the struct's size and alignment (Source.array), as `rt mir` tells them of the struct with all that is in it.
 The source is read as `rt fmt` lays it out; what is not understood is said with its file and line, and ends the run.
 
@@ -188,6 +189,10 @@ class Surrogate:
         self.made = self.lent + self.plain
         self.bodies = '\n'.join(f.function()[3] for f in self.made)
         self.texts = {}                 # what is written, by the declaration and the name that it gets
+        self.open = set()
+        for types in source.modules.values():
+            for item in [i for m in types.values() for i in m.items.values() if i.kind in ('struct', 'enum') and not i.head['of']]:
+                if self.looks_into(item): self.opens(item)
         for f in self.made: self.copy(f)
 
     def put(self, found, path):
@@ -197,9 +202,16 @@ class Surrogate:
             self.texts[found, found.name] = self.source.declared(found, found.name, self.put) if self.is_open(found) else self.closed(found)
         return path
 
-    def is_open(self, found):
+    def is_open(self, found): return found.kind == 'const' or found in self.open
+
+    def opens(self, found):
+        """A type that is looked into, and all that is in it."""
+        if found.kind == 'const' or found in self.open or found is self.source.struct: return
+        self.open.add(found)
+        self.source.declared(found, found.name, lambda x, path: self.opens(x) or path)
+
+    def looks_into(self, found):
         """Whether a made function looks into a type: names a variant or a field, or makes one."""
-        if found.kind == 'const': return True
         if found.kind == 'enum': return re.search(rf"\b{found.name}::", self.bodies)
         names = [re.search(r"(\w+): $", x) for x, _ in found.shape()[1]]
         return re.search(rf"\b{found.name}( \{{|\()", self.bodies) or any(re.search(rf"\.{n[1] if n else k}\b", self.bodies) for k, n in enumerate(names))

@@ -27,7 +27,7 @@ use Rattle.call.specs.Request.{entriesOf, areGood, arePossible, armedWit
 use Rattle.call.specs.Events.{met}
 use Rattle.call.specs.Operations.{continued, aborted}
 use Rattle.call.specs.Step.{respondIn}
-use Rattle.call.specs.Setup.{openOf}
+use Rattle.call.specs.Setup.{earlyOf, setUpOf, openOf}
 use Rattle.call.specs.Alone.{Input, aloneStep}
 
 -- ---- what a case is
@@ -274,5 +274,5 @@ runs =
     ∷ arm 1000 (entry 9 2 1 0 ∷ []) ▸ Refused 12 ∷ arm 1000 (entry 9 2 2 0 ∷ []) ▸ says R.Control (S.At (10 ╱ One)) None ∷ [])
 
 pub cases : map lastAnswer runs ≡ map (λ (c : Case). c .answer) runs
-unfolding flatten all contains leads same itemBytes itemInRange restAt bodyFrom bodyOf itemOf isItem readItem entryOf fieldsOf profileBytes profileInRange numbersAt numbersEnd viewAt profileOf isProfile someMatches triggers someArmed entriesOf areGood arePossible armedWith met continued aborted respondIn openOf aloneStep
+unfolding flatten all contains leads same itemBytes itemInRange restAt bodyFrom bodyOf itemOf isItem readItem entryOf fieldsOf profileBytes profileInRange numbersAt numbersEnd viewAt profileOf isProfile someMatches triggers someArmed entriesOf areGood arePossible armedWith met continued aborted respondIn earlyOf setUpOf openOf aloneStep
 cases = refl

@@ -16,7 +16,7 @@ use Rattle.forms.specs.Units.{isClockReading, isPeriod, isTimer, isDefaultTimer
 use Rattle.forms.specs.declared.item.Body.the-variants as body
 use Rattle.forms.specs.declared.item.Leg.the-variants.{One, Two}
 use Rattle.forms.proofs.ByteLaws.{and-left, and-right}
-use Rattle.call.specs.Types.{Body, Item, Entry, Leg, Handling, Seconds, Tenths, PointSet, Role, Named, Stage, Mode, Clock, Charge, LegState, Arming, Hold, Number, Record, Check, Stepped, Kind}
+use Rattle.call.specs.Types.{Body, Item, Entry, Leg, Handling, Seconds, Tenths, PointSet, Role, Named, Stage, Mode, Clock, Charge, LegState, Arming, Hold, Number, Record, Check, Stepped, Kind, Opening}
 use Rattle.call.specs.declared.roles.Role.the-variants as role
 use Rattle.call.specs.declared.record.Presence.the-variants.{Absent, Present}
 use Rattle.call.specs.declared.stages.Stage.the-variants.{Analysing}
@@ -33,16 +33,16 @@ use Rattle.call.specs.Points.{originating, pointIn, isIn, leaves, disarm
 use Rattle.call.specs.Record.{places, setOf, leg, charge, noCharge, waiting, running, isPresent, numberOf, legAt, timed, staged, withLegs, withLeg, armedAs, numbered, isHeld, isTrigger}
 use Rattle.call.specs.Charging.{answeredAs, answered, granted}
 use Rattle.call.specs.Answers.{remains, firstOf, guarded}
-use Rattle.call.specs.Trigger.{triggers}
 use Rattle.call.specs.Request.{entriesOf, named, isModeFor, isTimerFor, isGood, seenAfter, areGood, noneSeen, keptAfter, armedBy, armedWith}
 use Rattle.call.specs.Events.{holdAfter, legAfter, endsCall, metRecord, met}
 use Rattle.call.specs.Operations.{resumed, continued, connected, dropped, aborted, charged}
-use Rattle.call.specs.Kind.{kindOf}
+use Rattle.call.specs.Kind.{kindOf, ifSetup, isSetup}
 use Rattle.call.specs.Range.{chargeInRangeAs, chargeInRange, holdInRange, armingsInRange, placesInRange, numberInRange, inRangeOf, recordInRange}
-use Rattle.call.specs.Refusals.{row1, row1Time, row2, row3, row7, rowsOf}
+use Rattle.call.specs.Refusals.{row1, row1Time, earlyRows, row3, row7, rowsOf}
 use Rattle.call.specs.Step.{served, respondIn, respondOf, stepOf}
-use Rattle.call.specs.Setup.{opened, begun, openAs, openOf}
+use Rattle.call.specs.Setup.{opened, begun, openingOf, notOpen, setUpOf, openOf}
 use Rattle.call.proofs.Laws.{on-cond, each, passes, no-row}
+use Rattle.call.proofs.SetupLaws.{AsSetup, setup, other, as-setup, setup-kind, open-guarded}
 use Rattle.call.proofs.PointLaws.{place-injective, same-role, every-role, disarm-these, originating-fits, role-exactly, pair-point}
 
 -- ---- a record's tests, one by one
@@ -437,28 +437,30 @@ profile-fits s h =
     let g = and-right (same (profileBytes p) s) (profileInRange p) h in
     field-at (fieldsOf p) 1 (and-left (allInRange (fieldsOf p)) (senseInRange (p .sense) (length (p .numbers) + length (p .lengths))) g)
 
-open-as-left : (k : Kind) (s : List ℕ) (t : Tenths) (rest : List ℕ) → isClockReading t ≡ true → asksFit k rest ≡ true → isLeftWell originating t (openAs k s t rest) ≡ true
-open-as-left (kind.Setup n v w c) s t rest o a =
-    let p = profileOf s in
-    guarded-left originating (firstOf (row2 s ∷ [])) _ (begun originating (triggers p n v w rest) (p .timer) (p .handling) (numberOf n c rest) t) t
-    (λ e. begun-left originating (triggers p n v w rest) (p .timer) (p .handling) (numberOf n c rest) t (profile-fits s (not-false (isProfile p s) (no-row (row2 s ∷ []) e 0))) o a)
-open-as-left (kind.Event p) s t rest o a = refl
-open-as-left (kind.PeriodOver l) s t rest o a = refl
-open-as-left (kind.RequestReport n) s t rest o a = refl
-open-as-left kind.Continue s t rest o a = refl
-open-as-left (kind.Connect n c) s t rest o a = refl
-open-as-left kind.Release s t rest o a = refl
-open-as-left (kind.ApplyCharging l p) s t rest o a = refl
-open-as-left kind.ActivityTest s t rest o a = refl
-open-as-left kind.Abort s t rest o a = refl
+-- where it is set up, what its profile said being in range
+set-up-left : (i : Item) (rest : List ℕ) (o : Opening) → isDefaultTimer (o .timer) ≡ true → asksFit (kindOf (i .body) Analysing) rest ≡ true → isLeftWell originating (i .time) (setUpOf i rest o) ≡ true
+unfolding setUpOf
+set-up-left i rest o h a =
+    guarded-left originating (firstOf (row1Time (i .time) ∷ [])) _ _ (i .time)
+    (λ e. go (not-false (isClockReading (i .time)) (no-row (row1Time (i .time) ∷ []) e 0)) (as-setup (kindOf (i .body) Analysing)) a)
+  where
+    go : isClockReading (i .time) ≡ true → {k : Kind} → AsSetup k → asksFit k rest ≡ true
+        → isLeftWell originating (i .time) (ifSetup k (λ n v w c. begun originating (o .triggered) (o .timer) (o .handling) (numberOf n c rest) (i .time)) notOpen) ≡ true
+    go t (setup n v w c) a = begun-left originating (o .triggered) (o .timer) (o .handling) (numberOf n c rest) (i .time) h t a
+    go t (other e) a = rw (e Stepped (λ n v w c. begun originating (o .triggered) (o .timer) (o .handling) (numberOf n c rest) (i .time)) notOpen)
 
 pub open-left : (i : Item) (rest s : List ℕ) → isLeftWell originating (i .time) (openOf i rest s) ≡ true
-unfolding openOf itemInRange
+unfolding itemInRange
 open-left i rest s =
-    let t = i .time in
-    let k = kindOf (i .body) Analysing in
     let form = formOf (i .body) in
     let b = allInRange (form .fields) && restInRange (form .rest) rest in
-    guarded-left originating (firstOf (row1 i rest ∷ [])) _ (openAs k s t rest) t
-    (λ e. let g = not-false (b && isClockReading t) (no-row (row1 i rest ∷ []) e 0) in
-    open-as-left k s t rest (and-right b (isClockReading t) g) (body-fits (i .body) Analysing rest (and-left b (isClockReading t) g)))
+    let rows = earlyRows (not (itemInRange i rest)) i s in
+    rw (open-guarded i rest s)
+    (guarded-left originating (firstOf rows) _ _ (i .time)
+    (λ e. let q = no-row rows e in
+    go (as-setup (kindOf (i .body) Analysing)) refl (q 1) (body-fits (i .body) Analysing rest (and-left b (isClockReading (i .time)) (not-false (itemInRange i rest) (q 0))))))
+  where
+    go : {k : Kind} → AsSetup k → kindOf (i .body) Analysing ≡ k → (isSetup i && not (isProfile (profileOf s) s)) ≡ false → asksFit (kindOf (i .body) Analysing) rest ≡ true
+        → isLeftWell originating (i .time) (ifSetup k (λ n v w c. setUpOf i rest (openingOf (profileOf s) n v w c rest)) notOpen) ≡ true
+    go (setup n v w c) e p a = set-up-left i rest _ (profile-fits s (not-false (isProfile (profileOf s) s) (rw (setup-kind (i .body) Analysing, e) at p))) a
+    go (other f) e p a = rw (f Stepped (λ n v w c. setUpOf i rest (openingOf (profileOf s) n v w c rest)) notOpen)

@@ -19,7 +19,6 @@ use Rattle.call.specs.Types.{Entry, Item, Tenths, PointSet, Mode, Arming
 use Rattle.forms.specs.declared.profile.ProfileView.{ProfileView}
 use Rattle.forms.specs.declared.profile.ReadProfile.the-variants.{Profile, Refused}
 use Rattle.forms.proofs.ByteLaws.{and-left, and-right}
-use Rattle.forms.proofs.ItemLaws.{item-size}
 use Rattle.call.specs.declared.armings.Mode.the-variants as mode
 use Rattle.call.specs.declared.refusals.Check.the-variants.{Pass, Fail}
 use Rattle.call.specs.declared.points.Named.the-variants.{Unknown, Known}
@@ -87,7 +86,7 @@ no-row [] h i = refl
 no-row (x ∷ xs) h zero = passes (x .applies) (x .number) (firstOf xs) h .0
 no-row (x ∷ xs) h (suc i) = no-row xs (passes (x .applies) (x .number) (firstOf xs) h .1) i
 
--- ---- what was read of a profile, and an item in range
+-- ---- what was read of a profile, and the time of an item in range
 
 pub profile-read : (s : List ℕ) (v : ProfileView) → readProfile s ≡ Profile v → (isProfile (profileOf s) s ≡ true) × (viewOf s ≡ v)
 unfolding readProfile
@@ -105,12 +104,9 @@ profile-refused s n e = go (isProfile (profileOf s) s) e
     go true h = absurd (let z : _≡_ {A = ℕ} 0 1 = cc in omega arith)
     go false h = refl
 
-time-fits : (i : Item) (rest : List ℕ) → itemInRange i rest ≡ true → ltb (i .time .0) clockEnd ≡ true
+pub time-fits : (i : Item) (rest : List ℕ) → itemInRange i rest ≡ true → ltb (i .time .0) clockEnd ≡ true
 unfolding itemInRange
 time-fits i rest h = and-right (allInRange (formOf (i .body) .fields) && restInRange (formOf (i .body) .rest) rest) (ltb (i .time .0) clockEnd) h
-
-pub item-fits : (i : Item) (rest : List ℕ) → itemInRange i rest ≡ true → (i .time .0 < clockEnd) × (length rest < 256)
-item-fits i rest h = (ltb-true _ _ (time-fits i rest h), omega (arith, item-size i rest h))
 
 -- ---- the strongest mode that is armed
 

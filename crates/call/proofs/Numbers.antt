@@ -1,14 +1,15 @@
 -- The numbers of refusals: which of document 01's each public function of `call` that can refuse gives. (Demand 1: "Every entry point answers, or gives one of document 01's numbered refusals.")
 use Prim.Native.Nat.{ℕ}
 use mathlib.Core.Path.{_≡_, refl, sym, ap, _∙_}
-use mathlib.Core.Bool.{Bool, true, false, cond, _&&_, _||_, false≢true}
+use mathlib.Core.Bool.{Bool, true, false, not, cond, _&&_, _||_, false≢true}
 use mathlib.Core.List.{List, [], _∷_, map}
 use lib.Dec.{eqb}
 use borrow.Author.Tests.{eqb-true}
 use Rattle.forms.specs.Bytes.{all, contains}
 use Rattle.forms.proofs.ByteLaws.{and-left, and-right}
-use Rattle.forms.specs.Profile.{profileOf, isProfile}
-use Rattle.call.specs.Types.{Item, Tenths, Seconds, Handling, PointSet, Number, Role, Record, Answer, Stepped, Kind}
+use Rattle.forms.specs.Item.{itemInRange}
+use Rattle.forms.specs.Profile.{profileOf}
+use Rattle.call.specs.Types.{Item, Tenths, Seconds, Handling, PointSet, Number, Role, Record, Answer, Stepped, Kind, Opening}
 use Rattle.call.specs.declared.stages.Stage.the-variants.{Analysing}
 use Rattle.call.specs.declared.answers.Answer.the-variants.{Accepted, Refused}
 use Rattle.call.specs.declared.kind.Kind.the-variants as kind
@@ -17,14 +18,14 @@ use Rattle.call.specs.Armings.{modeAt}
 use Rattle.call.specs.Points.{originating}
 use Rattle.call.specs.Record.{setOf, isPresent, isHeld, isTrigger, blank, numberOf}
 use Rattle.call.specs.Answers.{Row, isAccepted, firstOf, guarded}
-use Rattle.call.specs.Trigger.{triggers}
 use Rattle.call.specs.Events.{endsCall, met}
 use Rattle.call.specs.Operations.{dropped, continued, aborted}
-use Rattle.call.specs.Kind.{kindOf}
-use Rattle.call.specs.Refusals.{row1, row1Time, row2, row3, rowsOf}
+use Rattle.call.specs.Kind.{kindOf, ifSetup}
+use Rattle.call.specs.Refusals.{row1, row1Time, earlyRows, row3, rowsOf}
 use Rattle.call.specs.Step.{served, respondIn, respondOf, stepOf}
-use Rattle.call.specs.Setup.{begun, openAs, openOf}
+use Rattle.call.specs.Setup.{begun, openingOf, notOpen, setUpOf, openOf}
 use Rattle.call.proofs.Laws.{on-cond}
+use Rattle.call.proofs.SetupLaws.{AsSetup, setup, other, as-setup, open-guarded}
 
 -- a refusal's number is one of ns
 abbrev pub isOneOf : List ℕ → Answer → Bool
@@ -113,23 +114,25 @@ module _ (r : Record) (i : Item) (rest : List ℕ) where
 abbrev pub openNumbers : List ℕ
 openNumbers = 1 ∷ 2 ∷ 4 ∷ []
 
-begun-one : (dp : PointSet) (b : Bool) (timer : Seconds) (handling : Handling) (number : Number) (t : Tenths) → OneOf openNumbers (begun dp b timer handling number t)
+abbrev pub setUpNumbers : List ℕ
+setUpNumbers = 1 ∷ 4 ∷ []
+
+begun-one : (dp : PointSet) (b : Bool) (timer : Seconds) (handling : Handling) (number : Number) (t : Tenths) → OneOf setUpNumbers (begun dp b timer handling number t)
 begun-one dp true timer handling number t = refl
 begun-one dp false timer handling number t = refl
 
-opened-one : (k : Kind) (s : List ℕ) (t : Tenths) (rest : List ℕ) → OneOf openNumbers (openAs k s t rest)
-unfolding all contains
-opened-one (kind.Setup n v w c) s t rest = guarded-one openNumbers (row2 s ∷ []) blank _ refl (begun-one originating (triggers (profileOf s) n v w rest) _ _ _ t)
-opened-one (kind.Event p) s t rest = refl
-opened-one (kind.PeriodOver l) s t rest = refl
-opened-one (kind.RequestReport n) s t rest = refl
-opened-one kind.Continue s t rest = refl
-opened-one (kind.Connect n c) s t rest = refl
-opened-one kind.Release s t rest = refl
-opened-one (kind.ApplyCharging l p) s t rest = refl
-opened-one kind.ActivityTest s t rest = refl
-opened-one kind.Abort s t rest = refl
+pub set-up-numbers : (i : Item) (rest : List ℕ) (o : Opening) → OneOf setUpNumbers (setUpOf i rest o)
+unfolding setUpOf all contains
+set-up-numbers i rest o = guarded-one setUpNumbers (row1Time (i .time) ∷ []) blank _ refl (go (as-setup (kindOf (i .body) Analysing)))
+  where
+    go : {k : Kind} → AsSetup k → OneOf setUpNumbers (ifSetup k (λ n v w c. begun originating (o .triggered) (o .timer) (o .handling) (numberOf n c rest) (i .time)) notOpen)
+    go (setup n v w c) = begun-one originating (o .triggered) _ _ _ (i .time)
+    go (other e) = rw (e Stepped (λ n v w c. begun originating (o .triggered) (o .timer) (o .handling) (numberOf n c rest) (i .time)) notOpen)
 
 pub open-numbers : (i : Item) (rest s : List ℕ) → OneOf openNumbers (openOf i rest s)
-unfolding openOf all contains
-open-numbers i rest s = guarded-one openNumbers (row1 i rest ∷ []) blank _ refl (opened-one (kindOf (i .body) Analysing) s (i .time) rest)
+unfolding all contains
+open-numbers i rest s = rw (open-guarded i rest s) (guarded-one openNumbers (earlyRows (not (itemInRange i rest)) i s) blank _ refl (go (as-setup (kindOf (i .body) Analysing))))
+  where
+    go : {k : Kind} → AsSetup k → OneOf openNumbers (ifSetup k (λ n v w c. setUpOf i rest (openingOf (profileOf s) n v w c rest)) notOpen)
+    go (setup n v w c) = one-of-more setUpNumbers openNumbers (setUpOf i rest (openingOf (profileOf s) n v w c rest) .answer) refl (set-up-numbers i rest (openingOf (profileOf s) n v w c rest))
+    go (other e) = rw (e Stepped (λ n v w c. setUpOf i rest (openingOf (profileOf s) n v w c rest)) notOpen)

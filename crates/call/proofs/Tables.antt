@@ -36,7 +36,7 @@ use Rattle.call.specs.Events.{canMeet, met}
 use Rattle.call.specs.Operations.{continued, aborted}
 use Rattle.call.specs.Range.{holdInRange, armingsInRange, placesInRange, numberInRange, inRangeOf, recordInRange}
 use Rattle.call.specs.Step.{respondIn, respondOf, stepOf}
-use Rattle.call.specs.Setup.{openOf}
+use Rattle.call.specs.Setup.{earlyOf, setUpOf, openOf}
 
 -- ---- pairs of point and leg, as the listing prints them
 
@@ -583,19 +583,19 @@ abbrev dialled : List (ℕ × List ℕ)
 dialled = (4, 4 ∷ 9 ∷ []) ∷ (4, 4 ∷ 9 ∷ 5 ∷ []) ∷ (4, 1 ∷ 2 ∷ []) ∷ (3, 4 ∷ 9 ∷ []) ∷ (3, 4 ∷ 9 ∷ 5 ∷ []) ∷ []
 
 abbrev senses : Criterion → List Bool
-senses sense = map (λ (d : ℕ × List ℕ). triggers (profile sense [] A.Absent) (d .0) 8 false (d .1)) dialled
+senses sense = map (λ (d : ℕ × List ℕ). triggers (profile sense [] A.Absent) (d .0) 8 false (length (d .1)) (d .1)) dialled
 
 abbrev served : List ℕ → List Bool
-served services = map (λ (n : ℕ). triggers (profile A.Absent services A.Absent) 4 n false (4 ∷ [])) (8 ∷ 9 ∷ 7 ∷ [])
+served services = map (λ (n : ℕ). triggers (profile A.Absent services A.Absent) 4 n false 1 (4 ∷ [])) (8 ∷ 9 ∷ 7 ∷ [])
 
 abbrev forwards : Criterion → List Bool
-forwards c = map (λ (b : Bool). triggers (profile A.Absent [] c) 4 8 b (4 ∷ [])) (true ∷ false ∷ [])
+forwards c = map (λ (b : Bool). triggers (profile A.Absent [] c) 4 8 b 1 (4 ∷ [])) (true ∷ false ∷ [])
 
 -- "Enabling: some number or some length matches. Inhibiting: no number and no length matches. Service: list empty, or the call's service is in it. Forwarding: enabling wants a forwarded call, inhibiting one that isn't."
 -- "All present criteria must hold.": each of the three fails alone
 pub triggering :
     senses A.Absent ∷ senses A.Enabling ∷ senses A.Inhibiting ∷ served [] ∷ served (8 ∷ 9 ∷ []) ∷ forwards A.Absent ∷ forwards A.Enabling ∷ forwards A.Inhibiting
-    ∷ map (λ (x : Criterion × ℕ × Bool). triggers (profile (x .0) (8 ∷ []) A.Enabling) 4 (x .1) (x .2) (4 ∷ 9 ∷ [])) ((A.Enabling, 8, true) ∷ (A.Inhibiting, 8, true) ∷ (A.Enabling, 7, true) ∷ (A.Enabling, 8, false) ∷ [])
+    ∷ map (λ (x : Criterion × ℕ × Bool). triggers (profile (x .0) (8 ∷ []) A.Enabling) 4 (x .1) (x .2) 2 (4 ∷ 9 ∷ [])) ((A.Enabling, 8, true) ∷ (A.Inhibiting, 8, true) ∷ (A.Enabling, 7, true) ∷ (A.Enabling, 8, false) ∷ [])
     ∷ []
     ≡ replicate 5 true ∷ (true ∷ true ∷ true ∷ true ∷ false ∷ []) ∷ (false ∷ false ∷ false ∷ false ∷ true ∷ []) ∷ replicate 3 true ∷ (true ∷ true ∷ false ∷ []) ∷ replicate 2 true ∷ (true ∷ false ∷ []) ∷ (false ∷ true ∷ [])
     ∷ (true ∷ false ∷ false ∷ false ∷ [])
@@ -623,7 +623,7 @@ abbrev setup : List ℕ → Said × Option ℕ × Record
 setup s = let q = opened (B.Setup 4 0 false 2) (4 ∷ 9 ∷ []) s in (said (q .answer), deadlineIn (q .answer), q .next)
 
 pub setups : map setup (any ∷ only8 ∷ []) ≡ (interrupts (2 ╱ 1), none, begins H.Trigger) ∷ (silent, some 1300, begins H.None) ∷ []
-unfolding all contains same itemInRange fieldsOf profileBytes profileInRange numbersAt numbersEnd viewAt profileOf isProfile someMatches triggers someArmed openOf
+unfolding all contains same itemInRange fieldsOf profileBytes profileInRange numbersAt numbersEnd viewAt profileOf isProfile someMatches triggers someArmed earlyOf setUpOf openOf
 setups = refl
 
 -- "call not open (all but Setup)"; "item malformed" and "profile malformed" of a Setup
@@ -633,7 +633,7 @@ pub not-open :
     ∷ refusal (opened (B.Setup 128 0 false 1) (4 ∷ []) [] .answer) ∷ refusal (opened (B.Setup 4 0 false 1) (4 ∷ []) [] .answer)
     ∷ [])
     ≡ replicate 17 4 ++ (1 ∷ 2 ∷ [])
-unfolding all contains same itemInRange fieldsOf profileBytes profileInRange numbersAt numbersEnd viewAt profileOf isProfile openOf
+unfolding all contains same itemInRange fieldsOf profileBytes profileInRange numbersAt numbersEnd viewAt profileOf isProfile earlyOf setUpOf openOf
 not-open = refl
 
 -- any item for any record: 1 before 3, 3 before 5 and 7

@@ -1,4 +1,5 @@
 -- What an item asks of a call at its stage: an event is the role that it meets (document 01, One call).
+use Prim.Native.Nat.{ℕ}
 use mathlib.Core.Bool.{Bool, cond}
 use lib.Dec.{eqb}
 use Rattle.forms.specs.Item.{formOf}
@@ -32,6 +33,19 @@ kindOf body.Release s = kind.Release
 kindOf (body.ApplyCharging l period) s = kind.ApplyCharging l period
 kindOf body.ActivityTest s = kind.ActivityTest
 kindOf body.Abort s = kind.Abort
+
+-- what f says of a Setup's nature, service, forwarded flag and digit count; x of all else
+abbrev pub ifSetup : {A : Type 0} → Kind → (ℕ → ℕ → Bool → ℕ → A) → A → A
+ifSetup (kind.Setup nature service forwarded count) f x = f nature service forwarded count
+ifSetup (kind.Event p) f x = x
+ifSetup (kind.PeriodOver l) f x = x
+ifSetup (kind.RequestReport n) f x = x
+ifSetup kind.Continue f x = x
+ifSetup (kind.Connect nature count) f x = x
+ifSetup kind.Release f x = x
+ifSetup (kind.ApplyCharging l period) f x = x
+ifSetup kind.ActivityTest f x = x
+ifSetup kind.Abort f x = x
 
 abbrev pub isSetup : Item → Bool
 isSetup i = eqb (formOf (i .body) .kind) 1

@@ -3,7 +3,7 @@ use Prim.Native.Nat.{ℕ}
 use mathlib.Core.Bool.{Bool, true, not, _&&_}
 use mathlib.Core.List.{List, [], _∷_}
 use lib.Dec.{ltb}
-use Rattle.forms.specs.Item.{itemInRange}
+use Rattle.forms.specs.Item.{itemInRange, itemOf, isItem}
 use Rattle.forms.specs.Profile.{profileOf, isProfile}
 use Rattle.forms.specs.Units.{isClockReading}
 use Rattle.call.specs.Types.{Leg, Item, Entry, Tenths, Role, PointSet, Record, Kind}
@@ -12,6 +12,7 @@ use Rattle.call.specs.Charging.{isBeforeEnd}
 use Rattle.call.specs.Relationship.{relationshipOf, isControl, isRelated}
 use Rattle.call.specs.Record.{isPresent, isPending, isStarted, isHeld, legAt}
 use Rattle.call.specs.Answers.{Row, row}
+use Rattle.call.specs.Kind.{isSetup}
 use Rattle.call.specs.Request.{entriesOf, areGood, noneSeen, arePossible}
 use Rattle.call.specs.Events.{isClearOf1, canMeet}
 use Rattle.call.specs.Operations.{canConnect}
@@ -24,9 +25,18 @@ row1 i rest = row 1 (not (itemInRange i rest))
 abbrev pub row1Time : Tenths → Row
 row1Time t = row 1 (not (isClockReading t))
 
--- "profile malformed (Setup)"
-abbrev pub row2 : List ℕ → Row
-row2 s = row 2 (not (isProfile (profileOf s) s))
+-- The early refusals: those that come before the table is looked at, in their order, which is this list's and not the numbers'. The item i with the bytes s of a profile;
+-- whether it is malformed is said by who has it: bytes may be no item's, and a value out of range.
+abbrev pub earlyRows : Bool → Item → List ℕ → List Row
+earlyRows malformed i s =
+    -- "item malformed"; "profile malformed (Setup)"
+    row 1 malformed
+    ∷ row 2 (isSetup i && not (isProfile (profileOf s) s))
+    ∷ []
+
+-- those of an item's bytes
+abbrev pub earlyRowsIn : List ℕ → List ℕ → List Row
+earlyRowsIn item s = let i = itemOf item in earlyRows (not (isItem i item)) i s
 
 -- "a field out of range, … start later than last time": the record's part
 abbrev pub row3 : Record → Row

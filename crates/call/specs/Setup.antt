@@ -1,9 +1,10 @@
 -- Document 01, A call by itself and Triggering: a Setup opens a call.
 use Prim.Native.Nat.{ℕ}
-use mathlib.Core.Bool.{Bool, true, false}
+use mathlib.Core.Bool.{Bool, true, false, not}
 use mathlib.Core.List.{List, [], _∷_}
-use Rattle.forms.specs.Profile.{profileOf}
-use Rattle.call.specs.Types.{Item, Handling, Tenths, Seconds, PointSet, Hold, Number, Record, Stepped, Kind}
+use Rattle.forms.specs.Item.{itemInRange}
+use Rattle.forms.specs.Profile.{Profile, profileOf}
+use Rattle.call.specs.Types.{Item, Handling, Tenths, Seconds, PointSet, Hold, Number, Record, Check, Stepped, Opening, Early}
 use Rattle.call.specs.declared.stages.Stage.the-variants.{Analysing}
 use Rattle.call.specs.declared.record.Presence.the-variants.{Present}
 use Rattle.call.specs.declared.record.Clock.the-variants as clock
@@ -11,15 +12,16 @@ use Rattle.call.specs.declared.record.Hold.the-variants as hold
 use Rattle.call.specs.declared.charging.ChargeReport.the-variants as due
 use Rattle.call.specs.declared.answers.Report.the-variants as report
 use Rattle.call.specs.declared.answers.Deadline.the-variants as deadline
-use Rattle.call.specs.declared.kind.Kind.the-variants as kind
+use Rattle.call.specs.declared.refusals.Check.the-variants.{Pass, Fail}
+use Rattle.call.specs.declared.setup.Early.the-variants as early
 use Rattle.call.specs.Armings.{noArmings}
 use Rattle.call.specs.Points.{originating}
 use Rattle.call.specs.Record.{noTime, noTimer, numberOf, blank}
 use Rattle.call.specs.Answers.{firstOf, reports, goesOn, refused, guarded}
 use Rattle.call.specs.Trigger.{triggers}
 use Rattle.call.specs.Operations.{routed}
-use Rattle.call.specs.Kind.{kindOf}
-use Rattle.call.specs.Refusals.{row1, row2}
+use Rattle.call.specs.Kind.{kindOf, ifSetup}
+use Rattle.call.specs.Refusals.{row1Time, earlyRows}
 
 -- "stage analysing, both legs, held as Triggering says, last time the item's, nothing armed, no charge, no kept timer, the profile's defaults, the Setup's number"
 
@@ -49,24 +51,37 @@ begun dp true timer handling number t =
     goesOn dp (opened timer handling number hold.Trigger t) (reports (report.Interrupting (dp .trigger)) due.None due.None) deadline.None
 begun dp false timer handling number t = routed dp (opened timer handling number hold.None t) t
 
+-- ---- in two steps, so that an owner of many calls can look at them in between
+
+-- "held as Triggering says", "the profile's defaults": what the profile p says of a Setup
+abbrev pub openingOf : Profile → ℕ → ℕ → Bool → ℕ → List ℕ → Opening
+openingOf p nature service forwarded count dialled = record { triggered = triggers p nature service forwarded count dialled; timer = p .timer; handling = p .handling }
+
+-- the first early refusal of an item, with its digits and the bytes s of its profile; else what the profile of a Setup says
+abbrev pub unlessEarly : Check → Early → Early
+unlessEarly (Fail n) e = early.Refused n
+unlessEarly Pass e = e
+
+unfoldable pub earlyOf : Bool → Item → List ℕ → List ℕ → Early
+earlyOf malformed i rest s =
+    unlessEarly (firstOf (earlyRows malformed i s))
+    (ifSetup (kindOf (i .body) Analysing) (λ nature service forwarded count. early.Setup (openingOf (profileOf s) nature service forwarded count rest)) early.Other)
+
 -- "call not open (all but Setup)"
 abbrev pub notOpen : Stepped
 notOpen = refused blank 4
 
-abbrev pub openAs : Kind → List ℕ → Tenths → List ℕ → Stepped
-openAs (kind.Setup nature service forwarded count) s t rest =
-    let p = profileOf s in
-    guarded (firstOf (row2 s ∷ [])) blank (begun originating (triggers p nature service forwarded rest) (p .timer) (p .handling) (numberOf nature count rest) t)
-openAs (kind.Event x) s t rest = notOpen
-openAs (kind.PeriodOver l) s t rest = notOpen
-openAs (kind.RequestReport n) s t rest = notOpen
-openAs kind.Continue s t rest = notOpen
-openAs (kind.Connect nature count) s t rest = notOpen
-openAs kind.Release s t rest = notOpen
-openAs (kind.ApplyCharging l period) s t rest = notOpen
-openAs kind.ActivityTest s t rest = notOpen
-openAs kind.Abort s t rest = notOpen
+-- a Setup whose profile said o. (Of its ranges the time's alone is looked at: it is in range where no early refusal was given.)
+unfoldable pub setUpOf : Item → List ℕ → Opening → Stepped
+setUpOf i rest o =
+    guarded (firstOf (row1Time (i .time) ∷ [])) blank
+    (ifSetup (kindOf (i .body) Analysing) (λ nature service forwarded count. begun originating (o .triggered) (o .timer) (o .handling) (numberOf nature count rest) (i .time)) notOpen)
 
--- any item, with its digits and the bytes s of its profile, where no call is open: a Setup opens one, all else is 4
+-- any item where no call is open: a Setup opens one
+abbrev pub openedBy : Item → List ℕ → Early → Stepped
+openedBy i rest (early.Refused n) = refused blank n
+openedBy i rest (early.Setup o) = setUpOf i rest o
+openedBy i rest early.Other = notOpen
+
 unfoldable pub openOf : Item → List ℕ → List ℕ → Stepped
-openOf i rest s = guarded (firstOf (row1 i rest ∷ [])) blank (openAs (kindOf (i .body) Analysing) s (i .time) rest)
+openOf i rest s = openedBy i rest (earlyOf (not (itemInRange i rest)) i rest s)

@@ -15,15 +15,15 @@ holds Absent b = true
 holds Enabling b = b
 holds Inhibiting b = not b
 
--- "Enabling: some number or some length matches. Inhibiting: no number and no length matches." A length matches if the dialled number has it
-abbrev pub numberHolds : Profile → ℕ → List ℕ → Bool
-numberHolds p nature dialled = holds (p .sense) (someMatches (p .numbers) nature dialled || contains (length dialled) (p .lengths))
+-- "Enabling: some number or some length matches. Inhibiting: no number and no length matches." A length matches if it is the Setup's digit count
+abbrev pub numberHolds : Profile → ℕ → ℕ → List ℕ → Bool
+numberHolds p nature count dialled = holds (p .sense) (someMatches (p .numbers) nature dialled || contains count (p .lengths))
 
 -- "Service: list empty, or the call's service is in it."
 abbrev pub serviceHolds : List ℕ → ℕ → Bool
 serviceHolds services service = eqb (length services) 0 || contains service services
 
 -- "Forwarding: enabling wants a forwarded call, inhibiting one that isn't. All present criteria must hold."
-unfoldable pub triggers : Profile → ℕ → ℕ → Bool → List ℕ → Bool
-triggers p nature service forwarded dialled =
-    numberHolds p nature dialled && serviceHolds (p .services) service && holds (p .forwarding) forwarded
+unfoldable pub triggers : Profile → ℕ → ℕ → Bool → ℕ → List ℕ → Bool
+triggers p nature service forwarded count dialled =
+    numberHolds p nature count dialled && serviceHolds (p .services) service && holds (p .forwarding) forwarded

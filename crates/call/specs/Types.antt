@@ -33,6 +33,8 @@ pub use Rattle.call.specs.declared.refusals.Check.{Check}
 pub use Rattle.call.specs.declared.relationship.Relationship.{Relationship}
 pub use Rattle.call.specs.declared.roles.Part.{Part}
 pub use Rattle.call.specs.declared.roles.Role.{Role}
+pub use Rattle.call.specs.declared.setup.Early.{Early}
+pub use Rattle.call.specs.declared.setup.Opening.{Opening}
 pub use Rattle.call.specs.declared.stages.Span.{Span}
 pub use Rattle.call.specs.declared.stages.Stage.{Stage}
 

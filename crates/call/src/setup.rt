@@ -2,9 +2,12 @@
 ghost use mathlib.Core.Path.{_≡_};
 ghost use Rattle.call.specs.Points.{originating};
 ghost use Prim.Native.Nat.{_<_};
-ghost use lib.ListN.{length};
+ghost use mathlib.Core.Bool.{false, cond};
 ghost use Rattle.forms.specs.Units.{clockEnd};
-ghost use Rattle.call.specs.Setup.{opened, begun, openAs, openOf};
+ghost use Rattle.forms.specs.Profile.{profileOf, isProfile};
+ghost use Rattle.call.specs.Record.{numberOf};
+ghost use Rattle.call.specs.Kind.{ifSetup};
+ghost use Rattle.call.specs.Setup.{opened, begun, openingOf, earlyOf, notOpen, setUpOf, openedBy, openOf};
 use crate::answers;
 use crate::answers::*;
 use crate::armings;
@@ -22,6 +25,20 @@ use forms::item::Item;
 use forms::profile;
 use forms::profile::*;
 use forms::units::*;
+
+// What a Setup's profile says of the call: whether its criteria hold, and the record's defaults.
+pub struct Opening {
+    pub triggered: bool,
+    pub timer: Seconds,
+    pub handling: Handling,
+}
+
+// What comes before any call is looked at: a refusal, a Setup with what its profile says, or any other item.
+pub enum Early {
+    Refused(u8),
+    Setup(Opening),
+    Other,
+}
 
 // The record that a Setup opens.
 fn opened_record(
@@ -72,59 +89,109 @@ fn begin(triggered: bool, timer: Seconds, handling: Handling, number: Number, t:
     operations::route(opened_record(timer, handling, number, Hold::None, t), t)
 }
 
-// A Setup, with the bytes of its profile.
-fn open_setup(
+// What the profile of a Setup says, if it is one.
+fn read_opening(
     nature: u8,
     service: u8,
     forwarded: bool,
     count: u8,
-    t: Tenths,
     rest: &[u8],
-    s: &[u8],
-) -> Stepped
-    requires { ⌜ (t .0 < clockEnd) × (length (now rest) < 256) ⌝ }
-    ensures { λ r. ⌜ r ≡ openAs (Kind.Setup nature service forwarded count) (now (s .entry)) t (now (rest .entry)) ⌝ }
+    profile: &[u8],
+) -> Early
+    ensures { λ e. ⌜ e ≡ (let s = now (profile .entry) in cond (isProfile (profileOf s) s) (Early.Setup (openingOf (profileOf s) nature service forwarded count (now (rest .entry)))) (Early.Refused 2)) ⌝ }
 {
-    let number = record::number_of(nature, count, rest);
-    let read = profile::read_profile(s);
+    let read = profile::read_profile(profile);
     match read {
         ReadProfile::Profile(p) => {
             let timer = p.timer;
             let handling = p.handling;
-            let triggered = trigger::is_triggered(s, p, nature, service, forwarded, rest);
-            begin(triggered, timer, handling, number, t)
+            let triggered = trigger::is_triggered(
+                profile,
+                p,
+                nature,
+                service,
+                forwarded,
+                count,
+                rest,
+            );
+            Early::Setup(Opening {
+                triggered,
+                timer,
+                handling,
+            })
         }
-        ReadProfile::Refused(_) => answers::refuse(record::blank_record(), 2),
+        ReadProfile::Refused(_) => Early::Refused(2),
     }
 }
 
-// All but a Setup is 4.
-fn open_as(k: Kind, t: Tenths, rest: &[u8], s: &[u8]) -> Stepped
-    requires { ⌜ (t .0 < clockEnd) × (length (now rest) < 256) ⌝ }
-    ensures { λ r. ⌜ r ≡ openAs k (now (s .entry)) t (now (rest .entry)) ⌝ }
+// An item that is not malformed, with its digits and the bytes of its profile: what comes before any call is looked at.
+pub fn early_of(item: Item, rest: &[u8], profile: &[u8]) -> Early
+    ensures { λ e. ⌜ e ≡ earlyOf false item (now (rest .entry)) (now (profile .entry)) ⌝ }
 {
+    let body = item.body;
+    let k = kind::kind_of(body, Stage::Analysing);
     match k {
-        Kind::Setup(nature, service, forwarded, count) => open_setup(
+        Kind::Setup(nature, service, forwarded, count) => read_opening(
             nature,
             service,
             forwarded,
             count,
-            t,
             rest,
-            s,
+            profile,
+        ),
+        _ => Early::Other,
+    }
+}
+
+// All but a Setup is 4.
+fn set_up_as(k: Kind, t: Tenths, rest: &[u8], o: Opening) -> Stepped
+    requires { ⌜ t .0 < clockEnd ⌝ }
+    ensures { λ s. ⌜ s ≡ ifSetup k (λ nature service forwarded count. begun originating (o .triggered) (o .timer) (o .handling) (numberOf nature count (now (rest .entry))) t) notOpen ⌝ }
+{
+    let triggered = o.triggered;
+    let timer = o.timer;
+    let handling = o.handling;
+    match k {
+        Kind::Setup(nature, _, _, count) => begin(
+            triggered,
+            timer,
+            handling,
+            record::number_of(nature, count, rest),
+            t,
         ),
         _ => answers::refuse(record::blank_record(), 4),
     }
 }
 
-// Any item, where no call is open: a Setup opens one.
-pub fn open(item: Item, rest: &[u8], s: &[u8]) -> Stepped
-    ensures { λ r. ⌜ r ≡ openOf item (now (rest .entry)) (now (s .entry)) ⌝ }
+// A Setup opens a call, as `early_of` said. For an owner who knows that the item is in range: of the ranges only the time's is looked at.
+pub fn set_up(item: Item, rest: &[u8], o: Opening) -> Stepped
+    ensures { λ s. ⌜ s ≡ setUpOf item (now (rest .entry)) o ⌝ }
 {
     let body = item.body;
     let t = item.time;
+    if t.0 < Tenths::CLOCK_END.0 {
+        set_up_as(kind::kind_of(body, Stage::Analysing), t, rest, o)
+    } else {
+        answers::refuse(record::blank_record(), 1)
+    }
+}
+
+fn open_by(item: Item, rest: &[u8], e: Early) -> Stepped
+    ensures { λ s. ⌜ s ≡ openedBy item (now (rest .entry)) e ⌝ }
+{
+    match e {
+        Early::Refused(n) => answers::refuse(record::blank_record(), n),
+        Early::Setup(o) => set_up(item, rest, o),
+        Early::Other => answers::refuse(record::blank_record(), 4),
+    }
+}
+
+// Any item, where no call is open: a Setup opens one.
+pub fn open(item: Item, rest: &[u8], profile: &[u8]) -> Stepped
+    ensures { λ s. ⌜ s ≡ openOf item (now (rest .entry)) (now (profile .entry)) ⌝ }
+{
     if item::in_range(item, rest) {
-        open_as(kind::kind_of(body, Stage::Analysing), t, rest, s)
+        open_by(item, rest, early_of(item, rest, profile))
     } else {
         answers::refuse(record::blank_record(), 1)
     }

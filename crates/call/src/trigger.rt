@@ -1,7 +1,5 @@
 // Triggering at Collected_Info: whether a profile's criteria hold for a Setup (document 01, Triggering).
 ghost use mathlib.Core.Path.{_≡_};
-ghost use Prim.Native.Nat.{_<_};
-ghost use lib.ListN.{length};
 ghost use Rattle.forms.specs.Profile.{profileOf, viewOf};
 ghost use Rattle.call.specs.Trigger.{holds, serviceHolds, triggers};
 use forms::bytes;
@@ -25,23 +23,23 @@ fn service_holds(services: &[u8], service: u8) -> bool
     (services.len() == 0) | bytes::contains(services, service)
 }
 
-// `profile` are the bytes of a profile, `p` its view.
+// `profile` are the bytes of a profile, `p` its view; `count` is the digit count of the Setup, `dialled` its digits.
 pub(crate) fn is_triggered(
     profile: &[u8],
     p: ProfileView,
     nature: u8,
     service: u8,
     forwarded: bool,
+    count: u8,
     dialled: &[u8],
 ) -> bool
-    requires { ⌜ (p ≡ viewOf (now profile)) × (length (now dialled) < 256) ⌝ }
-    ensures { λ r. ⌜ r ≡ triggers (profileOf (now (profile .entry))) nature service forwarded (now (dialled .entry)) ⌝ }
+    requires { ⌜ p ≡ viewOf (now profile) ⌝ }
+    ensures { λ r. ⌜ r ≡ triggers (profileOf (now (profile .entry))) nature service forwarded count (now (dialled .entry)) ⌝ }
 {
     let sense = p.sense;
     let forwarding = p.forwarding;
     let lengths = profile::list_at(profile, p.lengths);
     let services = profile::list_at(profile, p.services);
-    let count = dialled.len() as u8;
     let found = profile::some_match(profile, nature, dialled) | bytes::contains(lengths, count);
     holds_for(sense, found) & service_holds(services, service) & holds_for(forwarding, forwarded)
 }

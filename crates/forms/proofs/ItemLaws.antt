@@ -1,6 +1,6 @@
 -- Laws of the item's written form, for the proofs of reading and writing and for the theorems.
 use Prim.Native.Nat.{ℕ, _+_, _*_, _≤_, _<_}
-use mathlib.Core.Path.{_≡_, refl, sym, ap, _∙_, subst}
+use mathlib.Core.Path.{_≡_, refl, sym, ap, _∙_}
 use mathlib.Core.List.{List, [], _∷_, _++_}
 use mathlib.Core.Bool.{Bool, true, false, _&&_, cond, and-true, and-assoc}
 use native.Mathlib.Omega.{arith}
@@ -8,8 +8,6 @@ use lib.ListN.{length, getD, take, drop, length-append, length-drop}
 use lib.Seq.{drop-drop, getD-drop}
 use lib.Dec.{leb, eqb, lit≤}
 use borrow.Author.Tests.{leb-true, eqb-true, ne-eqb}
-use denote.Enum.Declared.{tagOf}
-use types.Run.{OneOf, miss}
 use Rattle.forms.specs.Bytes.{toBytes, fromBytes, leads, same}
 use Rattle.forms.specs.Units.{longestPeriod, isPeriod, isClockReading}
 use Rattle.forms.specs.Fields.{nature, flag, mostDigits, isDigitCount, digitCount, legNumber, entryCount, allInRange, frame, framed}
@@ -24,7 +22,6 @@ use Rattle.forms.specs.declared.item.Rest.the-variants.{Nothing, Digits,
 use Rattle.forms.specs.declared.item.Fixed.{Fixed}
 use Rattle.forms.specs.declared.item.Item.{Item}
 use Rattle.forms.specs.declared.item.ReadItem.the-variants as R
-use Rattle.forms.proofs.item.Body.{the-type}
 use Rattle.forms.proofs.ByteLaws.{number-back, pad-front, picked, and-left, and-right, leads-both, leads-next, same-rest, same-true, framed-same, own-bytes}
 
 -- how many bytes follow the fields
@@ -52,45 +49,35 @@ pub record Formed (b : Body) : Type 0 where
   pub bounded : allInRange (formOf b .fields) ≡ true → length (fieldBytes b) + followed (formOf b .rest) ≤ 51
   -- its bytes name its values
   pub back : (t : List ℕ) → allInRange (formOf b .fields) ≡ true → bodyOf (formOf b .kind) (fieldBytes b ++ t) ≡ b
-  -- kind 1 is that of the first variant, Setup
-  pub first : eqb (formOf b .kind) 1 ≡ eqb (tagOf the-type b) 0
 
 -- a body that nothing follows
 alone : (b : Body) → length (fieldBytes b) + followed (formOf b .rest) ≤ 5
     → ((t : List ℕ) → allInRange (formOf b .fields) ≡ true → bodyOf (formOf b .kind) (fieldBytes b ++ t) ≡ b)
-    → eqb (formOf b .kind) 1 ≡ eqb (tagOf the-type b) 0
     → Formed b
-alone b s k e = record { short = omega arith; bounded = λ h. omega arith; back = k; first = e }
+alone b s k = record { short = omega arith; bounded = λ h. omega arith; back = k }
 
 numbered : (n c : ℕ) → (nature n .inRange && (digitCount c .inRange && true)) ≡ true → c ≤ mostDigits
 numbered n c h = leb-true c mostDigits (and-right (leb 1 c) _ (and-left (isDigitCount c) true (and-right (nature n .inRange) _ h)))
 
 pub formed : (b : Body) → Formed b
 unfolding bodyOf bodyFrom
-formed (B.Setup n s f c) = record { short = lit≤ tt; bounded = λ h. omega (arith, numbered n c h); back = λ t h. ap (λ x. B.Setup n s x c) (flag-back f); first = refl }
-formed (B.RouteFailure c) = alone (B.RouteFailure c) (lit≤ tt) (λ t h. refl) refl
-formed (B.Busy c) = alone (B.Busy c) (lit≤ tt) (λ t h. refl) refl
-formed B.NoAnswer = alone B.NoAnswer (lit≤ tt) (λ t h. refl) refl
-formed B.Seized = alone B.Seized (lit≤ tt) (λ t h. refl) refl
-formed B.Answer = alone B.Answer (lit≤ tt) (λ t h. refl) refl
-formed (B.MidCall d) = alone (B.MidCall d) (lit≤ tt) (λ t h. refl) refl
-formed B.Moved = alone B.Moved (lit≤ tt) (λ t h. refl) refl
-formed (B.Clear l c) = alone (B.Clear l c) (lit≤ tt) (λ t h. ap (λ x. B.Clear x c) (leg-back l)) refl
-formed (B.PeriodOver l) = alone (B.PeriodOver l) (lit≤ tt) (λ t h. ap B.PeriodOver (leg-back l)) refl
-formed (B.RequestReport c) = record { short = lit≤ tt; bounded = λ h. omega (arith, leb-true c 10 (and-right (leb 1 c) _ (and-left (entryCount c .inRange) true h))); back = λ t h. refl; first = refl }
-formed B.Continue = alone B.Continue (lit≤ tt) (λ t h. refl) refl
-formed (B.Connect n c) = record { short = lit≤ tt; bounded = λ h. omega (arith, numbered n c h); back = λ t h. refl; first = refl }
-formed B.Release = alone B.Release (lit≤ tt) (λ t h. refl) refl
-formed (B.ApplyCharging l p) = alone (B.ApplyCharging l p) (lit≤ tt) (λ t h. ap (λ x. B.ApplyCharging x (record { 0 = fromBytes 4 (toBytes 4 (p .0) ++ t) })) (leg-back l) ∙ ap (λ (n : ℕ). B.ApplyCharging l (record { 0 = n })) (period-back p t (and-left (isPeriod p) true h))) refl
-formed B.ActivityTest = alone B.ActivityTest (lit≤ tt) (λ t h. refl) refl
-formed B.Abort = alone B.Abort (lit≤ tt) (λ t h. refl) refl
-
--- a body of another variant than the first is no Setup
-abbrev others : List ℕ
-others = 1 ∷ 2 ∷ 3 ∷ 4 ∷ 5 ∷ 6 ∷ 7 ∷ 8 ∷ 9 ∷ 10 ∷ 11 ∷ 12 ∷ 13 ∷ 14 ∷ 15 ∷ 16 ∷ []
-
-pub no-setup : (b : Body) → OneOf others (tagOf the-type b) → eqb (formOf b .kind) 1 ≡ false
-no-setup b h = formed b .first ∙ ne-eqb _ _ (λ (e : tagOf the-type b ≡ 0). miss others 0 tt (subst (OneOf others) e h))
+formed (B.Setup n s f c) = record { short = lit≤ tt; bounded = λ h. omega (arith, numbered n c h); back = λ t h. ap (λ x. B.Setup n s x c) (flag-back f) }
+formed (B.RouteFailure c) = alone (B.RouteFailure c) (lit≤ tt) (λ t h. refl)
+formed (B.Busy c) = alone (B.Busy c) (lit≤ tt) (λ t h. refl)
+formed B.NoAnswer = alone B.NoAnswer (lit≤ tt) (λ t h. refl)
+formed B.Seized = alone B.Seized (lit≤ tt) (λ t h. refl)
+formed B.Answer = alone B.Answer (lit≤ tt) (λ t h. refl)
+formed (B.MidCall d) = alone (B.MidCall d) (lit≤ tt) (λ t h. refl)
+formed B.Moved = alone B.Moved (lit≤ tt) (λ t h. refl)
+formed (B.Clear l c) = alone (B.Clear l c) (lit≤ tt) (λ t h. ap (λ x. B.Clear x c) (leg-back l))
+formed (B.PeriodOver l) = alone (B.PeriodOver l) (lit≤ tt) (λ t h. ap B.PeriodOver (leg-back l))
+formed (B.RequestReport c) = record { short = lit≤ tt; bounded = λ h. omega (arith, leb-true c 10 (and-right (leb 1 c) _ (and-left (entryCount c .inRange) true h))); back = λ t h. refl }
+formed B.Continue = alone B.Continue (lit≤ tt) (λ t h. refl)
+formed (B.Connect n c) = record { short = lit≤ tt; bounded = λ h. omega (arith, numbered n c h); back = λ t h. refl }
+formed B.Release = alone B.Release (lit≤ tt) (λ t h. refl)
+formed (B.ApplyCharging l p) = alone (B.ApplyCharging l p) (lit≤ tt) (λ t h. ap (λ x. B.ApplyCharging x (record { 0 = fromBytes 4 (toBytes 4 (p .0) ++ t) })) (leg-back l) ∙ ap (λ (n : ℕ). B.ApplyCharging l (record { 0 = n })) (period-back p t (and-left (isPeriod p) true h)))
+formed B.ActivityTest = alone B.ActivityTest (lit≤ tt) (λ t h. refl)
+formed B.Abort = alone B.Abort (lit≤ tt) (λ t h. refl)
 
 -- a number that is the kind of none of the bodies, as the last arm of a `match` says it, chooses none of them
 abbrev NoneOf : ℕ → Type 0 → List Body → Type 0

@@ -4,7 +4,6 @@ ghost use mathlib.Core.List.{[], _∷_};
 ghost use mathlib.Core.Bool.{true, _&&_};
 ghost use Prim.Native.Nat.{_+_, _*_, _≤_};
 ghost use lib.ListN.{length, drop};
-ghost use lib.Dec.{eqb};
 ghost use Rattle.forms.specs.Bytes.{toBytes};
 ghost use Rattle.forms.specs.Units.{isClockReading};
 ghost use Rattle.forms.specs.Fields.{legNumber};
@@ -189,16 +188,6 @@ pub(crate) fn fixed_of(body: Body) -> Fixed
     }
 }
 
-// A Setup alone has the kind 1.
-pub fn is_setup(body: Body) -> bool
-    ensures { λ r. ⌜ r ≡ eqb (formOf body .kind) 1 ⌝ }
-{
-    match body {
-        Body::Setup(_, _, _, _) => true,
-        _ => false,
-    }
-}
-
 // The body of the kind n: b0 to b3 are its first bytes, `leg` is the leg that b0 stands for, `p` the number from b1 on.
 // A number that no kind has gives an Abort, whose row has the kind 26: the bytes are not it.
 fn body_from(n: u8, b0: u8, b1: u8, b2: u8, b3: u8, leg: Leg, p: u64) -> Body
@@ -243,7 +232,7 @@ fn body_of(n: u8, b: &[u8]) -> Body
 }
 
 // The call's number, whatever the bytes are.
-pub fn call_in(s: &[u8]) -> u32
+fn call_in(s: &[u8]) -> u32
     ensures { λ r. ⌜ r ≡ callIn (now (s .entry)) ⌝ }
 {
     bytes::number4(bytes::from(s, 4)) as u32

@@ -8,8 +8,8 @@ use mathlib.Core.Option.{Option, none, some}
 use lib.ListN.{getD, set, take, drop}
 use Rattle.forms.specs.Bytes as bytes
 use Rattle.forms.specs.Bytes.{contains, leads, same}
-use Rattle.forms.specs.Item.{callIn, itemBytes, itemInRange, restAt, bodyFrom, bodyOf, itemOf, isItem, readItem, entryOf}
-use Rattle.forms.specs.Profile.{fieldsOf, profileBytes, profileInRange, numbersAt, numbersEnd, viewAt, profileOf, isProfile, readProfile, someMatches}
+use Rattle.forms.specs.Item.{itemBytes, itemInRange, restAt, bodyFrom, bodyOf, itemOf, isItem, readItem, entryOf}
+use Rattle.forms.specs.Profile.{fieldsOf, profileBytes, profileInRange, numbersAt, numbersEnd, viewAt, profileOf, isProfile, someMatches}
 use Rattle.forms.specs.declared.item.Body.{Body}
 use Rattle.forms.specs.declared.item.Body.the-variants as body
 use Rattle.forms.proofs.Cases as forms
@@ -23,20 +23,20 @@ use Rattle.call.specs.Events.{met}
 use Rattle.call.specs.Operations.{continued, aborted}
 use Rattle.call.specs.Range.{placesInRange, numberInRange, inRangeOf, areFieldsBlank, isBlank}
 use Rattle.call.specs.Step.{respondIn}
-use Rattle.call.specs.Setup.{openOf}
+use Rattle.call.specs.Setup.{earlyOf, setUpOf, openOf}
 use Rattle.call.specs.Alone.{Input, aloneStep}
 use Rattle.call.proofs.Cases as call
 use Rattle.table.specs.declared.slot.Owner.the-variants.{Free}
 use Rattle.table.specs.declared.lookup.Spot.the-variants as spot
-use Rattle.table.specs.Types.{ReadItem, Record, Answer, Slot, Spot}
+use Rattle.table.specs.Types.{Item, ReadItem, Record, Answer, Slot, Spot}
 use Rattle.table.specs.Runs.{consIf, only, log, final, eachAlone}
 use Rattle.table.specs.Table.{ofCall, next, find, all, first, look, fresh, once, isSound, unless, store, seat, setupAt, otherAt, serve, damage, tableStep}
 use Rattle.table.specs.Slot.{ownerOf, ownedBy, blankSlot, ourSlots}
-use Rattle.table.specs.Feed.{earlyOf, ourCall, feedStep}
+use Rattle.table.specs.Feed.{itemIn, restIn, ourCall, feedStep, feedItemOf}
 use Rattle.table.specs.Independence.{itemsOf, linesOf}
 use Rattle.table.specs.Check.{calls, among, isOnce}
-use Rattle.table.specs.Lookup.{locateOf, slotOf}
-use Rattle.table.specs.Serve.{actedOf, slotAfter, damagedOf}
+use Rattle.table.specs.Lookup.{locateOf}
+use Rattle.table.specs.Serve.{servedOf, fedOf}
 use Rattle.table.specs.Demands.{byItself}
 use Rattle.table.proofs.LineCases.{triggered, ended}
 
@@ -170,8 +170,20 @@ shown =
     ++ map (λ (t : List Slot). record { edge = Damage; shown = answers t [] ((tooLong, Refused 1) ∷ (bare (setup 7), Refused 2) ∷ (bare (release 9), Refused 4) ∷ (setup 7, Refused 5) ∷ []) }) sound
 
 pub cases : map (λ (c : Case). computed (c .shown)) shown ≡ map (λ (c : Case). wanted (c .shown)) shown
-unfolding flatten bytes.all contains leads same itemBytes itemInRange restAt bodyFrom bodyOf itemOf isItem readItem entryOf fieldsOf profileBytes profileInRange numbersAt numbersEnd viewAt profileOf isProfile someMatches triggers someArmed nothingArmed entriesOf areGood arePossible armedWith met continued aborted respondIn openOf placesInRange numberInRange inRangeOf areFieldsBlank isBlank log final next find all fresh once isSound unless store seat setupAt otherAt serve damage tableStep blankSlot earlyOf
+unfolding flatten bytes.all contains leads same itemBytes itemInRange restAt bodyFrom bodyOf itemOf isItem readItem entryOf fieldsOf profileBytes profileInRange numbersAt numbersEnd viewAt profileOf isProfile someMatches triggers someArmed nothingArmed entriesOf areGood arePossible armedWith met continued aborted respondIn earlyOf setUpOf openOf placesInRange numberInRange inRangeOf areFieldsBlank isBlank log final next find all fresh once isSound unless store seat setupAt otherAt serve damage tableStep blankSlot
 cases = refl
+
+-- ---- a Setup that is handed in as a value, on a fresh table and on a damaged one; a time past the last clock reading would be written as 1000
+
+abbrev valueAt : ℕ → Item
+valueAt time = record { call = 7; time = record { 0 = time }; body = body.Setup 4 0 false 1 }
+
+abbrev fedAt : ℕ → List Answer
+fedAt time = map (λ (t : List Slot). feedItemOf t (valueAt time) (4 ∷ []) plain .0) (fresh ourSlots ∷ drop 1 (fresh ourSlots) ∷ [])
+
+pub as-values : map fedAt (1000 ∷ 281474976711656 ∷ []) ≡ (triggered ∷ Refused 3 ∷ []) ∷ (Refused 1 ∷ Refused 1 ∷ []) ∷ []
+unfolding flatten bytes.all contains leads same itemBytes itemInRange restAt bodyFrom bodyOf itemOf isItem readItem entryOf fieldsOf profileBytes profileInRange numbersAt numbersEnd viewAt profileOf isProfile someMatches triggers someArmed nothingArmed entriesOf areGood arePossible armedWith met continued aborted respondIn earlyOf setUpOf openOf placesInRange numberInRange inRangeOf areFieldsBlank isBlank log final next find all fresh once isSound unless store seat setupAt otherAt serve damage tableStep blankSlot
+as-values = refl
 
 -- ---- two calls by turns, one closed and opened again, and a third that is not open
 
@@ -189,25 +201,19 @@ answersIn = map (λ (e : Input × Answer). e .1)
 abbrev ownersIn : List Slot → List (Option ℕ)
 ownersIn t = map (λ (e : Slot). ownerOf (e .owner)) (take 4 t)
 
--- an item on a sound table as the code takes it, by the definitions of its parts: the spot, what is made of its slot, and the slot stored again
-abbrev stepAt : List Slot → Input → Spot → Answer × List Slot
-stepAt t x s =
-    let e = getD t (slotOf s) blankSlot in
-    let a = actedOf s (e .body) (x .item) (x .profile) in
-    (a .answer, set t (slotOf s) (slotAfter e (callIn (x .item)) a))
-
+-- an item on a sound table as the code takes it, by the definitions of its parts
 abbrev codeStep : List Slot → Input → Answer × List Slot
-codeStep t x = stepAt t x (locateOf (callIn (x .item)) t)
+codeStep t x = servedOf t (itemIn x) (restIn x) (earlyOf false (itemIn x) (restIn x) (x .profile))
 
 -- the answers on the table, of each call by itself, and of the code's parts
 pub by-turns : answersIn (log feedStep (fresh ourSlots) items) ∷ answersIn (eachAlone byItself (ofCall ourCall) (ourCall .call) none [] items) ∷ answersIn (log codeStep (fresh ourSlots) items) ∷ []
     ≡ answersIn turns ∷ answersIn turns ∷ answersIn turns ∷ []
-unfolding flatten bytes.all contains leads same itemBytes itemInRange restAt bodyFrom bodyOf itemOf isItem readItem entryOf fieldsOf profileBytes profileInRange numbersAt numbersEnd viewAt profileOf isProfile someMatches triggers someArmed nothingArmed entriesOf areGood arePossible armedWith met continued aborted respondIn openOf placesInRange numberInRange inRangeOf areFieldsBlank isBlank log final next find all fresh once isSound unless store seat setupAt otherAt serve damage tableStep blankSlot earlyOf eachAlone only consIf aloneStep actedOf
+unfolding flatten bytes.all contains leads same itemBytes itemInRange restAt bodyFrom bodyOf itemOf isItem readItem entryOf fieldsOf profileBytes profileInRange numbersAt numbersEnd viewAt profileOf isProfile someMatches triggers someArmed nothingArmed entriesOf areGood arePossible armedWith met continued aborted respondIn earlyOf setUpOf openOf placesInRange numberInRange inRangeOf areFieldsBlank isBlank log final next find all fresh once isSound unless store seat setupAt otherAt serve damage tableStep blankSlot eachAlone only consIf aloneStep
 by-turns = refl
 
 -- what they leave: call 7 in slot 0
 pub left-by-turns : map ownersIn (final feedStep (fresh ourSlots) items ∷ final codeStep (fresh ourSlots) items ∷ []) ≡ map (λ (n : ℕ). some 7 ∷ none ∷ none ∷ none ∷ []) (1 ∷ 2 ∷ [])
-unfolding flatten bytes.all contains leads same itemBytes itemInRange restAt bodyFrom bodyOf itemOf isItem readItem entryOf fieldsOf profileBytes profileInRange numbersAt numbersEnd viewAt profileOf isProfile someMatches triggers someArmed nothingArmed entriesOf areGood arePossible armedWith met continued aborted respondIn openOf placesInRange numberInRange inRangeOf areFieldsBlank isBlank log final next find all fresh once isSound unless store seat setupAt otherAt serve damage tableStep blankSlot earlyOf actedOf
+unfolding flatten bytes.all contains leads same itemBytes itemInRange restAt bodyFrom bodyOf itemOf isItem readItem entryOf fieldsOf profileBytes profileInRange numbersAt numbersEnd viewAt profileOf isProfile someMatches triggers someArmed nothingArmed entriesOf areGood arePossible armedWith met continued aborted respondIn earlyOf setUpOf openOf placesInRange numberInRange inRangeOf areFieldsBlank isBlank log final next find all fresh once isSound unless store seat setupAt otherAt serve damage tableStep blankSlot
 left-by-turns = refl
 
 -- ---- of each call: its items, their answers, and its record in a table (by its kept timer)
@@ -227,7 +233,7 @@ pub of-each-call : map its (7 ∷ 8 ∷ 9 ∷ [])
     ∷ (setup 8 ∷ setup 8 ∷ bare (setup 8) ∷ release 8 ∷ [], triggered ∷ Refused 5 ∷ Refused 2 ∷ ended ∷ [], some 30)
     ∷ (release 9 ∷ [], Refused 4 ∷ [], none)
     ∷ []
-unfolding flatten bytes.all contains leads same itemBytes itemInRange restAt bodyFrom bodyOf itemOf isItem readItem entryOf fieldsOf profileBytes profileInRange numbersAt numbersEnd viewAt profileOf isProfile someMatches triggers someArmed nothingArmed entriesOf areGood arePossible armedWith met continued aborted respondIn openOf placesInRange numberInRange inRangeOf areFieldsBlank isBlank log final next find all fresh once isSound unless store seat setupAt otherAt serve damage tableStep blankSlot earlyOf only consIf look first
+unfolding flatten bytes.all contains leads same itemBytes itemInRange restAt bodyFrom bodyOf itemOf isItem readItem entryOf fieldsOf profileBytes profileInRange numbersAt numbersEnd viewAt profileOf isProfile someMatches triggers someArmed nothingArmed entriesOf areGood arePossible armedWith met continued aborted respondIn earlyOf setUpOf openOf placesInRange numberInRange inRangeOf areFieldsBlank isBlank log final next find all fresh once isSound unless store seat setupAt otherAt serve damage tableStep blankSlot only consIf look first
 of-each-call = refl
 
 -- ---- the code's parts: where a call stands, with room and on a full table; one call twice; what is answered on a damaged table
@@ -244,10 +250,10 @@ abbrev areOnce : List Bool
 areOnce = map (λ (t : List Slot). isOnce (calls t)) (two ∷ set two 9 (ownedBy 7 record7) ∷ [])
 
 abbrev onDamage : List Answer
-onDamage = map (λ (x : Input). damagedOf (x .item) (x .profile)) (malformed ∷ tooLong ∷ bare (setup 9) ∷ bare (release 9) ∷ setup 7 ∷ [])
+onDamage = map (λ (x : Input). fedOf (drop 1 two) (itemIn x) (restIn x) (x .profile) .0) (bare (setup 9) ∷ bare (release 9) ∷ setup 7 ∷ [])
 
 pub parts : (located ≡ spot.Own 0 ∷ spot.Own 1 ∷ spot.Free 2 ∷ spot.Own 63 ∷ spot.Nowhere ∷ [])
     × (areOnce ≡ true ∷ false ∷ [])
-    × (onDamage ≡ Refused 1 ∷ Refused 1 ∷ Refused 2 ∷ Refused 3 ∷ Refused 3 ∷ [])
-unfolding flatten bytes.all contains leads same itemBytes itemInRange restAt bodyFrom bodyOf itemOf isItem readItem entryOf fieldsOf profileBytes profileInRange numbersAt numbersEnd viewAt profileOf isProfile someMatches triggers someArmed nothingArmed entriesOf areGood arePossible armedWith met continued aborted respondIn openOf placesInRange numberInRange inRangeOf areFieldsBlank isBlank log final next find all fresh once isSound unless store seat setupAt otherAt serve damage tableStep blankSlot earlyOf calls among isOnce damagedOf readProfile
+    × (onDamage ≡ Refused 2 ∷ Refused 3 ∷ Refused 3 ∷ [])
+unfolding flatten bytes.all contains leads same itemBytes itemInRange restAt bodyFrom bodyOf itemOf isItem readItem entryOf fieldsOf profileBytes profileInRange numbersAt numbersEnd viewAt profileOf isProfile someMatches triggers someArmed nothingArmed entriesOf areGood arePossible armedWith met continued aborted respondIn earlyOf setUpOf openOf placesInRange numberInRange inRangeOf areFieldsBlank isBlank log final next find all fresh once isSound unless store seat setupAt otherAt serve damage tableStep blankSlot calls among isOnce
 parts = (refl, refl, refl)

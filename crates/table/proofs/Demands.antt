@@ -7,7 +7,7 @@ use mathlib.Core.Option.{Option, none, some}
 use lib.ListN.{getD, set, take, drop}
 use Rattle.forms.specs.Bytes.{all, contains}
 use Rattle.forms.specs.Units.{isPeriod, isTimer}
-use Rattle.forms.specs.Item.{itemOf, isItem, readItem, placed, readItemAt}
+use Rattle.forms.specs.Item.{itemBytes, itemInRange, itemOf, isItem, readItem, placed, readItemAt}
 use Rattle.forms.specs.Write.{writable, written}
 use Rattle.forms.specs.Profile.{profileOf, isProfile, readProfile}
 use Rattle.forms.specs.Feeder.{bytesOf, takeOf, wholeFedAs, fedAs, feedOf as feederOf}
@@ -18,21 +18,22 @@ use Rattle.forms.proofs.ItemTheorems.{written-read, one-run}
 use Rattle.call.specs.declared.answers.Answer.the-variants.{Accepted, Refused}
 use Rattle.call.specs.Kind.{isSetup}
 use Rattle.call.specs.Step.{respondOf, stepOf}
-use Rattle.call.specs.Setup.{openOf}
+use Rattle.call.specs.Setup.{setUpOf, openOf}
 use Rattle.call.specs.Alone.{Input}
 use Rattle.call.proofs.Laws.{on-cond}
-use Rattle.call.proofs.Numbers.{isOneOf, accepted-one, one-of-more, respondNumbers, stepNumbers, openNumbers, respond-numbers, step-numbers, open-numbers}
+use Rattle.call.proofs.SetupLaws.{Comes, refuses, opens, passes, comes, setup-opens}
+use Rattle.call.proofs.Numbers.{isOneOf, accepted-one, one-of-more, respondNumbers, stepNumbers, setUpNumbers, openNumbers, respond-numbers, step-numbers, set-up-numbers, open-numbers}
 use Rattle.call.specs.Answers.{refusal as refusalOf, valuesOf}
 use Rattle.call.proofs.AnswerTheorems.{same-answer}
 use Rattle.call.proofs.Order.{either-order, either-order-items}
-use Rattle.table.specs.Types.{Record, Answer, Slot}
+use Rattle.table.specs.Types.{Record, Answer, Early, Slot}
 use Rattle.table.specs.Runs.{log, final}
 use Rattle.table.specs.Table.{refuses, goes, ends, unless, damage, fresh, tableStep, serve, setupAt, otherAt, seat, store}
 use Rattle.table.specs.Slot.{ownedBy, blankSlot, ourSlots}
-use Rattle.table.specs.Feed.{itemIn, restIn, earlyOf, effectAs, ourCall, isSoundTable, feedStep, Turn, Feeds}
-use Rattle.table.specs.EntryPoints.{EntryPoint, period, timer, read-item, read-item-at, write-item, read-profile, feed-chunk, open-call, respond, step, feed, feed-sound, numbers, inPeriod, inTimer, inReadItem, inWritten, inReadProfile, inCompleted, inAnswer, refusal}
-use Rattle.table.specs.Demands.{Demand1, ownSlot, freeSlot, stored, firstRow, rows, slot, made, Demand2, Run, endOf, Started, ending, fed, line, Demand3, Demands}
-use Rattle.table.proofs.Ours.{item-fits, setup-opens, on-remains, open-remains, ours}
+use Rattle.table.specs.Feed.{itemIn, restIn, firstRow, effectAs, ourCall, isSoundTable, feedStep, Turn, Feeds}
+use Rattle.table.specs.EntryPoints.{EntryPoint, period, timer, read-item, read-item-at, write-item, read-profile, feed-chunk, early-of, set-up, open-call, respond, step, feed, feed-item, feed-sound, numbers, inPeriod, inTimer, inReadItem, inWritten, inReadProfile, inCompleted, inEarly, inAnswer, refusal}
+use Rattle.table.specs.Demands.{Demand1, ownSlot, freeSlot, stored, rows, slot, made, Demand2, Run, endOf, Started, ending, fed, line, Demand3, Demands}
+use Rattle.table.proofs.Ours.{item-fits, on-remains, open-remains, ours}
 
 -- ---- demand 2: the rows in their order, then what `call` makes of the item
 
@@ -50,7 +51,7 @@ module _ (t : List Slot) (x : Input) where
   Right = (feedStep t x ≡ answered) × (isOneOf (numbersOn (isSoundTable t)) (answered .0) ≡ true)
 
   right : Right
-  unfolding tableStep earlyOf unless damage serve setupAt otherAt seat store all contains
+  unfolding tableStep unless damage serve setupAt otherAt seat store all contains
   right =
       go (isItem (itemIn x) (x .item)) (isSetup (itemIn x)) (isProfile (profileOf (x .profile)) (x .profile)) (isSoundTable t) (ownSlot t x) (freeSlot t x) refl refl refl refl refl refl
     where
@@ -131,6 +132,15 @@ fed-among w t x ns e h =
     answer-among ns (feedStep t x .0)
     (one-of-more (numbersOn w) ns (feedStep t x .0) h (rw (ap (λ (d : Answer × List Slot). d .0) (right t x .0), ← e) (right t x .1)))
 
+-- so whatever the table is
+any-among : (t : List Slot) (x : Input) → Among (numbers (feed t (x .item) (x .profile))) (inAnswer (feedStep t x .0))
+unfolding all contains
+any-among t x = go (isSoundTable t) refl
+  where
+    go : (w : Bool) → isSoundTable t ≡ w → Among (numbers (feed t (x .item) (x .profile))) (inAnswer (feedStep t x .0))
+    go true e = fed-among true t x _ e refl
+    go false e = fed-among false t x _ e refl
+
 -- an item that a chunk completes is read; else a stop is 1 and a closed feeder 15
 chunk-among : (k : Taken) (f : Feeder) (c : List ℕ) → Among (1 ∷ 15 ∷ []) (inCompleted (fedAs k f c .completed))
 unfolding readItem contains
@@ -148,14 +158,19 @@ each-among (read-item-at s a) = on-cond (λ x. Among (1 ∷ []) (inReadItem (pla
 each-among (write-item i rest d) = on-cond (λ x. Among (1 ∷ []) (inWritten x)) (writable i rest d) _ _ refl refl
 each-among (read-profile s) = on-cond (λ x. Among (2 ∷ []) (inReadProfile x)) (isProfile (profileOf s) s) _ _ refl refl
 each-among (feed-chunk f c) = chunk-among (takeOf f c) f c
+each-among (early-of i rest s) = go (comes i rest s)
+  where
+    go : {e : Early} → Comes i rest s e → Among (2 ∷ []) (inEarly e)
+    go (refuses a b) = refl
+    go (opens o a b f) = refl
+    go (passes a) = refl
+each-among (set-up i rest o) = answer-among setUpNumbers (setUpOf i rest o .answer) (set-up-numbers i rest o)
 each-among (open-call i rest s) = answer-among openNumbers (openOf i rest s .answer) (open-numbers i rest s)
 each-among (respond r i rest) = answer-among respondNumbers (respondOf r i rest .answer) (respond-numbers r i rest)
 each-among (step r i rest) = answer-among stepNumbers (stepOf r i rest .answer) (step-numbers r i rest)
-each-among (feed t item profile) = go (isSoundTable t) refl
-  where
-    go : (w : Bool) → isSoundTable t ≡ w → Among (numbers (feed t item profile)) (refusal (feed t item profile))
-    go true e = fed-among true t (record { item = item; profile = profile }) _ e refl
-    go false e = fed-among false t (record { item = item; profile = profile }) _ e refl
+each-among (feed t item profile) = any-among t (record { item = item; profile = profile })
+each-among (feed-item t i rest profile) =
+    on-cond (λ (d : Answer × List Slot). Among (numbers (feed-item t i rest profile)) (inAnswer (d .0))) (itemInRange i rest) _ _ (any-among t (record { item = itemBytes i rest; profile = profile })) refl
 each-among (feed-sound t h item profile) = fed-among true t (record { item = item; profile = profile }) _ h refl
 
 among : (ns : List ℕ) (x : Option ℕ) → Among ns x → (n : ℕ) → x ≡ some n → contains n ns ≡ true

@@ -3,8 +3,14 @@ pub mod check_is_sound_Kinds
 pub mod check_is_sound_Reads
 pub mod feed_feed_Kinds
 pub mod feed_feed_Reads
+pub mod feed_feed_item_Kinds
+pub mod feed_feed_item_Reads
+pub mod feed_feed_read_Kinds
+pub mod feed_feed_read_Reads
 pub mod feed_feed_sound_Kinds
 pub mod feed_feed_sound_Reads
+pub mod feed_serve_item_Kinds
+pub mod feed_serve_item_Reads
 pub mod lookup_first_of_Kinds
 pub mod lookup_first_of_Reads
 pub mod lookup_locate_Kinds

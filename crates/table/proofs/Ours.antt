@@ -6,35 +6,30 @@ use mathlib.Core.Bool.{Bool, true, false, not, cond, _&&_, _||_, false≢true}
 use mathlib.Core.List.{List, [], _∷_}
 use mathlib.Core.Option.{Option, none, some}
 use native.Mathlib.Omega.{arith}
-use lib.Dec.{eqb}
 use lib.ListN.{replicate}
 use Rattle.forms.specs.Bytes.{all, contains, same}
-use Rattle.forms.specs.Item.{formOf, itemBytes, itemInRange, restOf, isItem, readItem}
+use Rattle.forms.specs.Item.{itemBytes, itemInRange, restOf, isItem}
 use Rattle.forms.specs.Profile.{profileOf, isProfile}
-use Rattle.forms.specs.declared.item.Body.{Body}
-use Rattle.forms.specs.declared.item.Body.the-variants as body
 use Rattle.forms.specs.declared.units.Tenths.{Tenths}
 use Rattle.forms.proofs.ByteLaws.{and-left, and-right}
 use Rattle.call.specs.declared.answers.Answer.the-variants.{Accepted, Refused}
-use Rattle.call.specs.declared.stages.Stage.the-variants.{Analysing}
-use Rattle.call.specs.Points.{originating}
 use Rattle.call.specs.Record.{setOf}
 use Rattle.call.specs.Answers.{isAccepted, remains}
-use Rattle.call.specs.Trigger.{triggers}
-use Rattle.call.specs.Kind.{isSetup, kindOf}
+use Rattle.call.specs.Kind.{isSetup}
 use Rattle.call.specs.Range.{recordInRange}
 use Rattle.call.specs.Step.{respondOf}
-use Rattle.call.specs.Setup.{begun, openAs, openOf}
+use Rattle.call.specs.Setup.{openOf}
 use Rattle.call.specs.Alone.{Input, aloneStep}
 use Rattle.call.specs.Alone as alone
 use Rattle.call.proofs.Blank.{blank-passes}
+use Rattle.call.proofs.SetupLaws.{Opens, setup-opens}
 use Rattle.call.proofs.InRange.{isLeftWell, respond-left, open-left}
 use Rattle.call.proofs.CallTheorems.{isOver}
 use Rattle.call.proofs.Numbers.{isOneOf, accepted-one, one-of-more, respondNumbers, respond-numbers}
 use Rattle.table.specs.Types.{Item, Record, Answer, Stepped, Slot}
 use Rattle.table.specs.Table.{refuses, goes, ends, unless, fresh, Done}
 use Rattle.table.specs.Slot.{blankSlot, ourSlots}
-use Rattle.table.specs.Feed.{itemIn, restIn, earlyOf, effectAs, ourCall, isSoundTable, feedOf, turn, Feeds}
+use Rattle.table.specs.Feed.{itemIn, restIn, early, effectAs, ourCall, isSoundTable, feedOf, turn, Feeds}
 use Rattle.table.specs.Independence.{Independence}
 use Rattle.table.proofs.Promises.{Kept, keep, setupAlone, otherAlone, serveAlone, aloneAs, onNext, Promises}
 use Rattle.table.proofs.Independence.{independence, stays-sound, fresh-is-sound}
@@ -51,52 +46,12 @@ passed true true false e = (refl, λ h. cc)
 passed true false false e = (refl, λ h. cc)
 passed false s p e = (cc, λ h. cc)
 
-module _ (x : Input) (e : earlyOf x ≡ none) where
+module _ (x : Input) (e : early x ≡ none) where
   checks : (isItem (itemIn x) (x .item) ≡ true) × (isSetup (itemIn x) ≡ true → isProfile (profileOf (x .profile)) (x .profile) ≡ true)
-  unfolding earlyOf
   checks = passed (isItem (itemIn x) (x .item)) (isSetup (itemIn x)) (isProfile (profileOf (x .profile)) (x .profile)) e
 
   item-in-range : itemInRange (itemIn x) (restIn x) ≡ true
   item-in-range = item-fits (itemIn x) (x .item) (checks .0)
-
--- ---- a Setup that is neither opens a call: it is accepted, and the call is not over
-
-abbrev pub Opens : Stepped → Type 0
-Opens s = (isAccepted (s .answer) ≡ true) × (isOver (s .answer) ≡ false)
-
-begun-opens : (b : Bool) (timer : _) (handling : _) (number : _) (t : Tenths) → Opens (begun originating b timer handling number t)
-begun-opens true timer handling number t = (refl, refl)
-begun-opens false timer handling number t = (refl, refl)
-
--- what holds of every Setup's body holds of the body of an item that is a Setup
-on-setup : (P : Body → Type 0) → ((n v : ℕ) (w : Bool) (c : ℕ) → P (body.Setup n v w c)) → (b : Body) → eqb (formOf b .kind) 1 ≡ true → P b
-on-setup P f (body.Setup n v w c) h = f n v w c
-on-setup P f (body.RouteFailure c) h = absurd (false≢true h)
-on-setup P f (body.Busy c) h = absurd (false≢true h)
-on-setup P f body.NoAnswer h = absurd (false≢true h)
-on-setup P f body.Seized h = absurd (false≢true h)
-on-setup P f body.Answer h = absurd (false≢true h)
-on-setup P f (body.MidCall d) h = absurd (false≢true h)
-on-setup P f body.Moved h = absurd (false≢true h)
-on-setup P f (body.Clear l c) h = absurd (false≢true h)
-on-setup P f (body.PeriodOver l) h = absurd (false≢true h)
-on-setup P f (body.RequestReport c) h = absurd (false≢true h)
-on-setup P f body.Continue h = absurd (false≢true h)
-on-setup P f (body.Connect n c) h = absurd (false≢true h)
-on-setup P f body.Release h = absurd (false≢true h)
-on-setup P f (body.ApplyCharging l p) h = absurd (false≢true h)
-on-setup P f body.ActivityTest h = absurd (false≢true h)
-on-setup P f body.Abort h = absurd (false≢true h)
-
-module _ (i : Item) (rest s : List ℕ) (o : itemInRange i rest ≡ true) (h : isSetup i ≡ true) where
-  pub setup-opens : isProfile (profileOf s) s ≡ true → Opens (openOf i rest s)
-  unfolding openOf
-  setup-opens p =
-      rw o (on-setup (λ b. Opens (openAs (kindOf b Analysing) s (i .time) rest)) (λ n v w c. rw p (begun-opens (triggers (profileOf s) n v w rest) _ _ _ (i .time))) (i .body) h)
-
-  pub setup-refused : isProfile (profileOf s) s ≡ false → openOf i rest s .answer ≡ Refused 2
-  unfolding openOf
-  setup-refused p = rw o (on-setup (λ b. openAs (kindOf b Analysing) s (i .time) rest .answer ≡ Refused 2) (λ n v w c. rw p) (i .body) h)
 
 -- ---- what remains after an answer
 
@@ -163,26 +118,21 @@ module _ (x : Input) where
     as-setup none p =
         let q = setup-opens (itemIn x) (restIn x) (x .profile) o h p in
         (ap (λ k. (opens .answer, k)) (open-remains (opens .answer) none none (some (opens .next)) q), accepted-one aloneNumbers (opens .answer) (q .0))
-    as-setup (some r) p = rw p (refl, refl)
-
-    as-refused : (v : Option Record) → profileIs false → As (alone.setupAlone v (itemIn x) (restIn x) (x .profile)) (Refused 2, v)
-    unfolding contains
-    as-refused none p = let e = setup-refused (itemIn x) (restIn x) (x .profile) o h p in (ap (λ a. (a, remains {A = Option Record} a none none (some (opens .next)))) e, ap (isOneOf aloneNumbers) e)
-    as-refused (some r) p = rw p (refl, refl)
+    as-setup (some r) p = (refl, refl)
 
   alone-as : (v : Option Record) → As (aloneStep v (x .item) (x .profile)) (aloneAs ourCall v x)
-  unfolding aloneStep readItem aloneAs earlyOf unless serveAlone contains
+  unfolding aloneStep aloneAs unless serveAlone contains
   alone-as v = go (isItem (itemIn x) (x .item)) (isSetup (itemIn x)) (isProfile (profileOf (x .profile)) (x .profile)) refl refl refl
     where
       go : (i s p : Bool) → isItem (itemIn x) (x .item) ≡ i → isSetup (itemIn x) ≡ s → profileIs p → As (aloneStep v (x .item) (x .profile)) (aloneAs ourCall v x)
       go true true true e f g = rw (e, f, g) (as-setup (item-fits (itemIn x) (x .item) e) f v g)
-      go true true false e f g = rw (e, f, g) (as-refused (item-fits (itemIn x) (x .item) e) f v g)
+      go true true false e f g = rw (e, f, g) (refl, refl)
       go true false p e f g = rw (e, f) (as-other v)
       go false s p e f g = rw e (refl, refl)
 
 -- ---- the promises, and what comes of them
 
-begin-in-range : (x : Input) → earlyOf x ≡ none → isSetup (itemIn x) ≡ true → recordInRange (openOf (itemIn x) (restIn x) (x .profile) .next) ≡ true
+begin-in-range : (x : Input) → early x ≡ none → isSetup (itemIn x) ≡ true → recordInRange (openOf (itemIn x) (restIn x) (x .profile) .next) ≡ true
 begin-in-range x e h =
     let s = openOf (itemIn x) (restIn x) (x .profile) in
     let q = setup-opens (itemIn x) (restIn x) (x .profile) (item-in-range x e) h (checks x e .1 h) in

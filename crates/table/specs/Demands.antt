@@ -2,14 +2,13 @@
 -- The words between quotes are the demands' own and document 01's. What they rest on: `forms` (the written forms), `call` (one call), and here Table, Slot, Feed, EntryPoints, and of lists Runs and Independence.
 use Prim.Native.Nat.{ℕ, _^_, _<_}
 use mathlib.Core.Bool.{true, not, cond, _&&_}
-use mathlib.Core.List.{List, [], _∷_, map}
+use mathlib.Core.List.{List, [], _∷_, _++_, map}
 use mathlib.Core.Option.{Option, none, some}
 use mathlib.Core.Path.{_≡_}
 use mathlib.Core.Logic.{_≢_}
 use lib.ListN.{getD, set, take, drop}
 use Rattle.forms.specs.Bytes.{contains}
-use Rattle.forms.specs.Item.{restAt, restOf, itemOf, isItem, readItem}
-use Rattle.forms.specs.Profile.{profileOf, isProfile}
+use Rattle.forms.specs.Item.{restAt, restOf, itemOf, readItem}
 use Rattle.forms.specs.Write.{written, after}
 use Rattle.forms.specs.declared.units.Tenths.{Tenths}
 use Rattle.forms.specs.declared.item.ReadItem.the-variants as read
@@ -17,6 +16,7 @@ use Rattle.forms.specs.declared.write.Written.the-variants.{Length}
 use Rattle.call.specs.declared.answers.Answer.the-variants.{Refused}
 use Rattle.call.specs.Answers.{Values, refusal as refusalOf, valuesOf, Row, row, remains}
 use Rattle.call.specs.Kind.{isSetup}
+use Rattle.call.specs.Refusals.{earlyRowsIn}
 use Rattle.call.specs.Step.{respondOf}
 use Rattle.call.specs.Setup.{openOf}
 use Rattle.call.specs.Alone.{Input, aloneStep}
@@ -25,7 +25,7 @@ use Rattle.table.specs.Types.{Item, Record, Answer, Stepped, Slot}
 use Rattle.table.specs.Runs.{All, final, eachAlone}
 use Rattle.table.specs.Table.{isNone, find, placeOr, isFree, owns, look, fresh, unless, ofCall}
 use Rattle.table.specs.Slot.{ownedBy, blankSlot, ourSlots}
-use Rattle.table.specs.Feed.{itemIn, restIn, ourCall, isSoundTable, Turn, Feeds}
+use Rattle.table.specs.Feed.{itemIn, restIn, firstRow, ourCall, isSoundTable, Turn, Feeds}
 use Rattle.table.specs.EntryPoints.{EntryPoint, numbers, refusal}
 use Rattle.table.specs.Independence.{itemsOf, linesOf}
 
@@ -51,15 +51,14 @@ module _ (t : List Slot) (x : Input) where
   abbrev pub rows : List Row
   rows =
       -- "item malformed"; "profile malformed (Setup)"
-      row 1 (not (isItem (itemIn x) (x .item)))
-      ∷ row 2 (isSetup (itemIn x) && not (isProfile (profileOf (x .profile)) (x .profile)))
+      earlyRowsIn (x .item) (x .profile)
       -- "table not 64 records, a field out of range, a free record not blank, start later than last time, or one call twice"
-      ∷ row 3 (not (isSoundTable t))
+      ++ (row 3 (not (isSoundTable t))
       -- "call not open (all but Setup)"; "call already open (Setup)"; "64 open (Setup)"
       ∷ row 4 (not (isSetup (itemIn x)) && isNone ownSlot)
       ∷ row 5 (isSetup (itemIn x) && not (isNone ownSlot))
       ∷ row 6 (isSetup (itemIn x) && isNone freeSlot)
-      ∷ []
+      ∷ [])
 
   -- the slot that may change: "Setup takes the lowest free slot", another item its call's. (Where there is none, a row applies.)
   abbrev pub slot : ℕ
@@ -72,11 +71,6 @@ module _ (t : List Slot) (x : Input) where
 -- the table after what `call` made of an item of call k, whose slot is i: as it was, or the slot free again, or the next record in it
 abbrev pub stored : List Slot → ℕ → ℕ → Answer → Record → List Slot
 stored t k i a next = remains a t (set t i blankSlot) (set t i (ownedBy k next))
-
--- "Checked in this order; the first that applies is given and none otherwise."
-abbrev pub firstRow : List Row → Option ℕ
-firstRow [] = none
-firstRow (x ∷ xs) = cond (x .applies) (some (x .number)) (firstRow xs)
 
 -- the values of the answer, in the paper's numbers and words (`call`, Answers.antt), and the table
 abbrev pub due : List Slot → Input → Values × List Slot

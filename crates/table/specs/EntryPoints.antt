@@ -1,6 +1,6 @@
 -- The entry points: each public function that can refuse, of every layer, and the numbers that it can give. (Demand 1: "Every entry point answers, or gives one of document 01's numbered refusals." 15 is T-02's.)
 use Prim.Native.Nat.{ℕ}
-use mathlib.Core.Bool.{true}
+use mathlib.Core.Bool.{true, false}
 use mathlib.Core.List.{List, [], _∷_}
 use mathlib.Core.Option.{Option, none, some}
 use mathlib.Core.Path.{_≡_}
@@ -20,11 +20,12 @@ use Rattle.forms.specs.declared.profile.ReadProfile.the-variants as Q
 use Rattle.forms.specs.declared.feeder.Feeder.{Feeder}
 use Rattle.forms.specs.declared.feeder.Completed.{Completed}
 use Rattle.forms.specs.declared.feeder.Completed.the-variants as O
+use Rattle.call.specs.declared.setup.Early.the-variants as E
 use Rattle.call.specs.declared.answers.Answer.the-variants.{Accepted, Refused}
 use Rattle.call.specs.Step.{respondOf, stepOf}
-use Rattle.call.specs.Setup.{openOf}
-use Rattle.table.specs.Types.{Item, ReadItem, ReadProfile, Record, Answer, Slot}
-use Rattle.table.specs.Feed.{isSoundTable, feedOf}
+use Rattle.call.specs.Setup.{earlyOf, setUpOf, openOf}
+use Rattle.table.specs.Types.{Item, ReadItem, ReadProfile, Record, Answer, Opening, Early, Slot}
+use Rattle.table.specs.Feed.{isSoundTable, feedOf, feedItemOf}
 
 -- ---- an entry point, with what it is handed. (`feeder::take` says 15 by a variant of its own, `Closed`; `answers::refuse` gives the number that it is handed.)
 
@@ -37,12 +38,15 @@ pub data EntryPoint : Type 0 where
   write-item : Item → List ℕ → List ℕ → EntryPoint
   read-profile : List ℕ → EntryPoint
   feed-chunk : Feeder → List ℕ → EntryPoint
-  -- `call`: `setup::open`, `step::respond`, `step::step`
+  -- `call`: `setup::early_of`, `setup::set_up`, `setup::open`, `step::respond`, `step::step`
+  early-of : Item → List ℕ → List ℕ → EntryPoint
+  set-up : Item → List ℕ → Opening → EntryPoint
   open-call : Item → List ℕ → List ℕ → EntryPoint
   respond : Record → Item → List ℕ → EntryPoint
   step : Record → Item → List ℕ → EntryPoint
-  -- `table`: `feed`, and `feed_sound`, which asks for a sound table
+  -- `table`: `feed`, `feed_item`, and `feed_sound`, which asks for a sound table
   feed : List Slot → List ℕ → List ℕ → EntryPoint
+  feed-item : List Slot → Item → List ℕ → List ℕ → EntryPoint
   feed-sound : (t : List Slot) → isSoundTable t ≡ true → List ℕ → List ℕ → EntryPoint
 
 -- ---- the numbers that it can give
@@ -55,10 +59,13 @@ numbers (read-item-at s a) = 1 ∷ []
 numbers (write-item i rest d) = 1 ∷ []
 numbers (read-profile s) = 2 ∷ []
 numbers (feed-chunk f c) = 1 ∷ 15 ∷ []
+numbers (early-of i rest s) = 2 ∷ []
+numbers (set-up i rest o) = 1 ∷ 4 ∷ []
 numbers (open-call i rest s) = 1 ∷ 2 ∷ 4 ∷ []
 numbers (respond r i rest) = 1 ∷ 5 ∷ 7 ∷ 8 ∷ 9 ∷ 10 ∷ 11 ∷ 12 ∷ 13 ∷ 14 ∷ []
 numbers (step r i rest) = 1 ∷ 3 ∷ 5 ∷ 7 ∷ 8 ∷ 9 ∷ 10 ∷ 11 ∷ 12 ∷ 13 ∷ 14 ∷ []
 numbers (feed t item profile) = 1 ∷ 2 ∷ 3 ∷ 4 ∷ 5 ∷ 6 ∷ 7 ∷ 8 ∷ 9 ∷ 10 ∷ 11 ∷ 12 ∷ 13 ∷ 14 ∷ []
+numbers (feed-item t i rest profile) = 1 ∷ 2 ∷ 3 ∷ 4 ∷ 5 ∷ 6 ∷ 7 ∷ 8 ∷ 9 ∷ 10 ∷ 11 ∷ 12 ∷ 13 ∷ 14 ∷ []
 numbers (feed-sound t h item profile) = 1 ∷ 2 ∷ 4 ∷ 5 ∷ 6 ∷ 7 ∷ 8 ∷ 9 ∷ 10 ∷ 11 ∷ 12 ∷ 13 ∷ 14 ∷ []
 
 -- ---- the refusal that it gives, if it gives one: what its promise says, and the number in it
@@ -88,6 +95,11 @@ inCompleted (O.Item i a) = none
 inCompleted (O.Refused n) = some n
 inCompleted O.UsedUp = none
 
+abbrev pub inEarly : Early → Option ℕ
+inEarly (E.Refused n) = some n
+inEarly (E.Setup o) = none
+inEarly E.Other = none
+
 abbrev pub inAnswer : Answer → Option ℕ
 inAnswer (Accepted o) = none
 inAnswer (Refused n) = some n
@@ -100,8 +112,11 @@ refusal (read-item-at s a) = inReadItem (readItemAt s a)
 refusal (write-item i rest d) = inWritten (written i rest d)
 refusal (read-profile s) = inReadProfile (readProfile s)
 refusal (feed-chunk f c) = inCompleted (feederOf f c .completed)
+refusal (early-of i rest s) = inEarly (earlyOf false i rest s)
+refusal (set-up i rest o) = inAnswer (setUpOf i rest o .answer)
 refusal (open-call i rest s) = inAnswer (openOf i rest s .answer)
 refusal (respond r i rest) = inAnswer (respondOf r i rest .answer)
 refusal (step r i rest) = inAnswer (stepOf r i rest .answer)
 refusal (feed t item profile) = inAnswer (feedOf t item profile .0)
+refusal (feed-item t i rest profile) = inAnswer (feedItemOf t i rest profile .0)
 refusal (feed-sound t h item profile) = inAnswer (feedOf t item profile .0)

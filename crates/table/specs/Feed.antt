@@ -1,14 +1,14 @@
 -- What `feed` answers and leaves: the table of `Table.antt`, over the layer `call` and the bytes that are handed in.
 use Prim.Native.Nat.{ℕ}
-use mathlib.Core.Bool.{Bool, not, cond, _&&_}
-use mathlib.Core.List.{List}
+use mathlib.Core.Bool.{Bool, cond}
+use mathlib.Core.List.{List, [], _∷_}
 use mathlib.Core.Option.{Option, none, some}
 use mathlib.Core.Path.{_≡_}
-use Rattle.forms.specs.Item.{itemOf, restOf, isItem}
-use Rattle.forms.specs.Profile.{profileOf, isProfile}
+use Rattle.forms.specs.Item.{itemBytes, itemInRange, itemOf, restOf}
 use Rattle.call.specs.declared.answers.Answer.the-variants.{Refused}
-use Rattle.call.specs.Answers.{remains}
+use Rattle.call.specs.Answers.{Row, remains}
 use Rattle.call.specs.Kind.{isSetup}
+use Rattle.call.specs.Refusals.{earlyRowsIn}
 use Rattle.call.specs.Step.{respondOf}
 use Rattle.call.specs.Setup.{openOf}
 use Rattle.call.specs.Alone.{Input, aloneStep}
@@ -23,11 +23,14 @@ itemIn x = itemOf (x .item)
 abbrev pub restIn : Input → List ℕ
 restIn x = restOf (itemIn x .body) (x .item)
 
--- "item malformed", "profile malformed (Setup)": refusals 1 and 2, which are checked before the table is looked at
-unfoldable pub earlyOf : Input → Option ℕ
-earlyOf x =
-    cond (not (isItem (itemIn x) (x .item))) (some 1)
-    (cond (isSetup (itemIn x) && not (isProfile (profileOf (x .profile)) (x .profile))) (some 2) none)
+-- "Checked in this order; the first that applies is given and none otherwise."
+abbrev pub firstRow : List Row → Option ℕ
+firstRow [] = none
+firstRow (x ∷ xs) = cond (x .applies) (some (x .number)) (firstRow xs)
+
+-- the refusals that come before the table is looked at: `call`'s one list of them
+abbrev pub early : Input → Option ℕ
+early x = firstRow (earlyRowsIn (x .item) (x .profile))
 
 -- what `call` made of an item
 abbrev pub effectAs : Answer → Record → Effect Answer Record
@@ -41,7 +44,7 @@ ourCall =
       Answer = Answer;
       refused = Refused;
       call = λ x. itemIn x .call;
-      early = earlyOf;
+      early = early;
       isSetup = λ x. isSetup (itemIn x);
       begin = λ x. let s = openOf (itemIn x) (restIn x) (x .profile) in (s .answer, s .next);
       respond = λ r x. let s = respondOf r (itemIn x) (restIn x) in effectAs (s .answer) (s .next);
@@ -58,6 +61,10 @@ feedStep = tableStep ourCall ourSlots
 
 abbrev pub feedOf : List Slot → List ℕ → List ℕ → Answer × List Slot
 feedOf t item profile = feedStep t (record { item = item; profile = profile })
+
+-- an item that is handed in as a value, with its digits or entries, is fed as its written form is; out of range it is 1
+abbrev pub feedItemOf : List Slot → Item → List ℕ → List ℕ → Answer × List Slot
+feedItemOf t i rest profile = cond (itemInRange i rest) (feedOf t (itemBytes i rest) profile) (Refused 1, t)
 
 -- ---- a turn of `feed`
 

@@ -1,4 +1,4 @@
--- Where an item's call stands in the table, or where a Setup may go, over `Table.find`.
+-- Only for the code's shape: where an item's call stands in the table, or where a Setup may go, over `Table.find`.
 use Prim.Native.Nat.{ℕ}
 use mathlib.Core.Bool.{Bool}
 use mathlib.Core.List.{List}

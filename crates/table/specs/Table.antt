@@ -15,7 +15,7 @@ pub data Effect (Answer Rec : Type 0) : Type 0 where
   goes : Answer → Rec → Effect Answer Rec
   ends : Answer → Effect Answer Rec
 
--- `early` is the refusal that is checked before the table is looked at (1 or 2), if one applies; `begin` opens a call; `alone` is a call by itself
+-- `early` is the refusal that comes before the table is looked at, if one applies; `begin` opens a call; `alone` is a call by itself
 pub record OneCall : Type 1 where
   pub Item : Type 0
   pub Rec : Type 0

@@ -5,6 +5,8 @@ pub use Rattle.forms.specs.declared.profile.ReadProfile.{ReadProfile}
 pub use Rattle.call.specs.declared.record.Record.{Record}
 pub use Rattle.call.specs.declared.answers.Answer.{Answer}
 pub use Rattle.call.specs.declared.answers.Stepped.{Stepped}
+pub use Rattle.call.specs.declared.setup.Early.{Early}
+pub use Rattle.call.specs.declared.setup.Opening.{Opening}
 pub use Rattle.table.specs.declared.slot.Owner.{Owner}
 pub use Rattle.table.specs.declared.slot.Slot.{Slot}
 pub use Rattle.table.specs.declared.lookup.Spot.{Spot}

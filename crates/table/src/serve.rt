@@ -1,91 +1,73 @@
-// What an item makes of the one slot that it may change (document 01, Numbered refusals 1 to 6; One call).
+// What an item makes of the one slot that it may change (document 01, Numbered refusals 4 to 6; One call).
 ghost use mathlib.Core.Path.{_≡_};
-ghost use mathlib.Core.Bool.{cond, _&&_};
-ghost use Rattle.table.specs.Serve.{denied, openedAs, setUp, respondedAt, actedOn, actedOf, ownerAfter, slotAfter, isRefused, damagedOf};
+ghost use Rattle.call.specs.Record.{blank};
+ghost use Rattle.call.specs.Answers.{isAccepted, refused};
+ghost use Rattle.table.specs.Serve.{setUpAt, respondedAt, actedOf, ownerAfter, slotAfter};
 use crate::lookup::Spot;
 use crate::slot::*;
 use call::answers;
 use call::answers::*;
+use call::record;
 use call::record::Record;
 use call::setup;
+use call::setup::*;
 use call::step;
-use forms::bytes;
-use forms::item;
-use forms::item::*;
-use forms::profile;
-use forms::profile::ReadProfile;
+use forms::item::Item;
 
-// A Setup that can open no call: the refusal that comes before, else n.
-fn deny(r: Record, answer: Answer, n: u8) -> Stepped
-    ensures { λ s. ⌜ s ≡ denied r answer n ⌝ }
+// A refusal. Nothing is stored then, so the record beside it is blank.
+fn refuse(n: u8) -> Stepped
+    ensures { λ s. ⌜ s ≡ refused blank n ⌝ }
 {
-    match answer {
-        Answer::Accepted(o) => answers::refuse(r, n),
-        Answer::Refused(m) => answers::refuse(r, m),
-    }
+    answers::refuse(record::blank_record(), n)
 }
 
-// A Setup for a free slot, of which `call` made an answer and a next record.
-fn open(r: Record, answer: Answer, next: Record) -> Stepped
-    ensures { λ s. ⌜ s ≡ openedAs r answer next ⌝ }
+// A Setup, with what its profile says.
+fn set_up_at(s: Spot, item: Item, rest: &[u8], o: Opening) -> Stepped
+    ensures { λ q. ⌜ q ≡ setUpAt s item (now (rest .entry)) o ⌝ }
 {
-    match answer {
-        Answer::Accepted(o) => Stepped { answer, next },
-        Answer::Refused(n) => answers::refuse(r, n),
-    }
-}
-
-// A Setup, of which `call` made o.
-fn set_up(r: Record, s: Spot, o: Stepped) -> Stepped
-    ensures { λ q. ⌜ q ≡ setUp s r o ⌝ }
-{
-    let answer = o.answer;
-    let next = o.next;
     match s {
-        Spot::Nowhere => deny(r, answer, 6),
-        Spot::Free(_) => open(r, answer, next),
-        Spot::Own(_) => deny(r, answer, 5),
+        Spot::Nowhere => refuse(6),
+        Spot::Free(_) => setup::set_up(item, rest, o),
+        Spot::Own(_) => refuse(5),
     }
 }
 
 // All but a Setup.
-fn respond_at(r: Record, s: Spot, i: Item, rest: &[u8]) -> Stepped
-    ensures { λ q. ⌜ q ≡ respondedAt s r i (now (rest .entry)) ⌝ }
+fn respond_at(r: Record, s: Spot, item: Item, rest: &[u8]) -> Stepped
+    ensures { λ q. ⌜ q ≡ respondedAt s r item (now (rest .entry)) ⌝ }
 {
     match s {
-        Spot::Nowhere => answers::refuse(r, 4),
-        Spot::Free(_) => answers::refuse(r, 4),
-        Spot::Own(_) => step::respond(r, i, rest),
+        Spot::Nowhere => refuse(4),
+        Spot::Free(_) => refuse(4),
+        Spot::Own(_) => step::respond(r, item, rest),
     }
 }
 
-// A well-formed item.
-fn act_on(r: Record, s: Spot, i: Item, rest: &[u8], profile: &[u8]) -> Stepped
-    ensures { λ q. ⌜ q ≡ actedOn s r i (now (rest .entry)) (now (profile .entry)) ⌝ }
-{
-    let body = i.body;
-    if item::is_setup(body) {
-        set_up(r, s, setup::open(i, rest, profile))
-    } else {
-        respond_at(r, s, i, rest)
-    }
-}
-
-// The bytes of an item and of a profile, for the slot that stands at the spot.
-pub(crate) fn act(slot: Slot, s: Spot, bytes: &[u8], profile: &[u8]) -> Stepped
-    ensures { λ q. ⌜ q ≡ actedOf s (slot .body) (now (bytes .entry)) (now (profile .entry)) ⌝ }
+// An item that was read, for the slot that stands at the spot.
+pub(crate) fn act(slot: Slot, s: Spot, item: Item, rest: &[u8], early: Early) -> Stepped
+    ensures { λ q. ⌜ q ≡ actedOf early s (slot .body) item (now (rest .entry)) ⌝ }
 {
     let r = slot.body;
-    let read = item::read_item(bytes);
-    match read {
-        ReadItem::Item(i, at) => act_on(r, s, i, bytes::from(bytes, at), profile),
-        ReadItem::Refused(n) => answers::refuse(r, n),
+    match early {
+        Early::Refused(n) => refuse(n),
+        Early::Setup(o) => set_up_at(s, item, rest, o),
+        Early::Other => respond_at(r, s, item, rest),
+    }
+}
+
+pub(crate) fn is_accepted(s: Stepped) -> bool
+    ensures { λ b. ⌜ b ≡ isAccepted (s .answer) ⌝ }
+{
+    let answer = s.answer;
+    match answer {
+        Answer::Accepted(_) => true,
+        Answer::Refused(_) => false,
     }
 }
 
 // The slot of a call that is over is free again.
-fn owner_after(owner: Owner, call: u32, answer: Answer) -> Owner
-    ensures { λ w. ⌜ w ≡ ownerAfter owner call answer ⌝ }
+fn owner_after(call: u32, answer: Answer) -> Owner
+    ensures { λ w. ⌜ w ≡ ownerAfter call answer ⌝ }
 {
     match answer {
         Answer::Accepted(o) => {
@@ -95,18 +77,17 @@ fn owner_after(owner: Owner, call: u32, answer: Answer) -> Owner
                 Owner::Call(call)
             }
         }
-        Answer::Refused(_) => owner,
+        Answer::Refused(_) => Owner::Free,
     }
 }
 
-// The record that remains stands in the slot whatever the answer is: it is the old one after a refusal, and blank when the call is over.
-pub(crate) fn slot_after(slot: Slot, call: u32, s: Stepped) -> Slot
-    ensures { λ q. ⌜ q ≡ slotAfter slot call s ⌝ }
+// After an accepted item, whose record is blank when the call is over.
+pub(crate) fn slot_after(call: u32, s: Stepped) -> Slot
+    ensures { λ q. ⌜ q ≡ slotAfter call s ⌝ }
 {
-    let old = slot.owner;
     let answer = s.answer;
     let body = s.next;
-    let owner = owner_after(old, call, answer);
+    let owner = owner_after(call, answer);
     Slot { owner, body }
 }
 
@@ -114,28 +95,4 @@ pub(crate) fn answer_of(s: Stepped) -> Answer
     ensures { λ a. ⌜ a ≡ s .answer ⌝ }
 {
     s.answer
-}
-
-fn damage_after(setup: bool, profile: ReadProfile) -> u8
-    ensures { λ n. ⌜ n ≡ cond (isRefused profile && setup) 2 3 ⌝ }
-{
-    match profile {
-        ReadProfile::Profile(_) => 3,
-        ReadProfile::Refused(_) => { if setup { 2 } else { 3 } }
-    }
-}
-
-// On a damaged table: 1 and 2 come before 3.
-pub(crate) fn refuse_damaged(bytes: &[u8], profile: &[u8]) -> Answer
-    ensures { λ a. ⌜ a ≡ damagedOf (now (bytes .entry)) (now (profile .entry)) ⌝ }
-{
-    let read = item::read_item(bytes);
-    let p = profile::read_profile(profile);
-    match read {
-        ReadItem::Item(i, at) => {
-            let body = i.body;
-            Answer::Refused(damage_after(item::is_setup(body), p))
-        }
-        ReadItem::Refused(n) => Answer::Refused(n),
-    }
 }

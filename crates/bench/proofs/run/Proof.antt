@@ -4,7 +4,6 @@ mod Tie
 use mathlib.Core.Path.{_≡_, sym}
 use mathlib.Core.Bool.{true}
 use mathlib.Core.Logic.{⊎-elim}
-use mathlib.Core.List.{[]}
 use borrow.Author.Needs.{needs}
 use Rattle.table.specs.Feed.{isSoundTable}
 use Rattle.table.proofs.ServeLaws.{sound-size}
@@ -19,10 +18,10 @@ abbrev μ-loop : tie.MeasureT-loop
 μ-loop buf checked profile slots₀ s₀ slots s = s .left
 
 slice-aggregate-feed : tie.Need-slice-aggregate-feed Inv-loop μ-loop
-slice-aggregate-feed c = let p = c .before .before .before .before .loop in sym (sound-size (p .slots) [] [] (p .inv))
+slice-aggregate-feed c = let p = c .before .before .before .before .loop in sym (sound-size (p .slots) (p .inv))
 
 slice-aggregate-feed-sound : tie.Need-slice-aggregate-feed-sound Inv-loop μ-loop
-slice-aggregate-feed-sound c = let p = c .before .before .before .before .loop in sym (sound-size (p .slots) [] [] (p .inv))
+slice-aggregate-feed-sound c = let p = c .before .before .before .before .loop in sym (sound-size (p .slots) (p .inv))
 
 loop-again : tie.Need-loop-again Inv-loop μ-loop
 loop-again c =

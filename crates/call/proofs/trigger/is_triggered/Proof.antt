@@ -10,9 +10,9 @@ unfolding triggers profileOf
 returns c =
     let m = c .before .before .before .before in
     let l = m .before .before in
-    rw (c .holds-for2 .ensures, c .before .service-holds .ensures, c .before .before .holds-for .ensures, c .before .before .before .contains .ensures, m .some-match .ensures, m .before .list-at2 .ensures, l .list-at .ensures, l .before .before .before .pre .0)
+    rw (c .holds-for2 .ensures, c .before .service-holds .ensures, c .before .before .holds-for .ensures, c .before .before .before .contains .ensures, m .some-match .ensures, m .before .list-at2 .ensures, l .list-at .ensures, l .before .before .before .pre)
 
 pub is-triggered-spec : {M : Type 1} → statement M
 is-triggered-spec =
     tie.close
-    (tie.spec (search needs) (search needs) (search needs) (search needs) (search needs) (search needs) (search needs) (search needs) returns)
+    (tie.spec (search needs) (search needs) (search needs) (search needs) (search needs) (search needs) (search needs) returns)

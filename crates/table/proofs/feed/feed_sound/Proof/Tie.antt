@@ -1,35 +1,29 @@
 -- Made by tools/transplant.py of the derivation that Rattle generates for the surrogate of `table::feed::feed_sound`: not written by hand.
 use borrow.Fn.World.{World}
-use Rattle.forms.proofs.item.call_in.Met
-use Rattle.forms.proofs.item.call_in.Reads
-use Rattle.forms.proofs.item.call_in.Symbol
+use Rattle.call.proofs.setup.early_of.Met
+use Rattle.call.proofs.setup.early_of.Reads
+use Rattle.call.proofs.setup.early_of.Symbol
+use Rattle.forms.proofs.bytes.from.Met as Met'
+use Rattle.forms.proofs.bytes.from.Reads as Reads'
+use Rattle.forms.proofs.bytes.from.Symbol as Symbol'
+use Rattle.forms.proofs.item.read_item.Met as Met''
+use Rattle.forms.proofs.item.read_item.Reads as Reads''
+use Rattle.forms.proofs.item.read_item.Symbol as Symbol''
 use Rattle.table.proofs.feed.feed_sound.Code
 use Rattle.table.proofs.feed.feed_sound.Key
 use Rattle.table.proofs.Lent.feed_feed_sound_Kinds as Kinds
 use Rattle.table.proofs.feed.feed_sound.Proof.Lts
 use Rattle.table.proofs.Lent.feed_feed_sound_Reads.{Ghost, Owned, Pinned, Post, Pre, ensures, owns, passes, post-read, pre-read, requires}
 use Rattle.table.proofs.feed.feed_sound.Statement
-use Rattle.table.proofs.lookup.locate.Met as Met'
-use Rattle.table.proofs.Lent.lookup_locate_Reads as Reads''
-use Rattle.table.proofs.lookup.locate.Symbol as Symbol'
-use Rattle.table.proofs.lookup.slot_of.Met as Met''
-use Rattle.table.proofs.lookup.slot_of.Reads as Reads'3
-use Rattle.table.proofs.lookup.slot_of.Symbol as Symbol''
-use Rattle.table.proofs.serve.act.Met as Met'3
-use Rattle.table.proofs.serve.act.Reads as Reads'4
-use Rattle.table.proofs.serve.act.Symbol as Symbol'3
-use Rattle.table.proofs.serve.answer_of.Met as Met'4
-use Rattle.table.proofs.serve.answer_of.Reads as Reads'5
-use Rattle.table.proofs.serve.answer_of.Symbol as Symbol'4
-use Rattle.table.proofs.serve.slot_after.Met as Met'5
-use Rattle.table.proofs.serve.slot_after.Reads as Reads'6
-use Rattle.table.proofs.serve.slot_after.Symbol as Symbol'5
+use Rattle.table.proofs.feed.serve_item.Met as Met'3
+use Rattle.table.proofs.Lent.feed_serve_item_Reads as Reads'4
+use Rattle.table.proofs.feed.serve_item.Symbol as Symbol'3
 use borrow.Fn.Run
 use borrow.Fn.Written
 use contract.Running
 
 abbrev given : Lts.Claims
-given = (Reads.Asked, Reads.Learnt, Reads''.Asked, Reads''.Learnt, Reads'3.Asked, Reads'3.Learnt, Reads'4.Asked, Reads'4.Learnt, Reads'6.Asked, Reads'6.Learnt, Reads'5.Asked, Reads'5.Learnt)
+given = (Reads''.Asked, Reads''.Learnt, Reads'.Asked, Reads'.Learnt, Reads.Asked, Reads.Learnt, Reads'4.Asked, Reads'4.Learnt)
 
 abbrev pub Start : Type 0
 Start = Lts.Start given Pre Post
@@ -40,59 +34,59 @@ After-shared-slice-known = Lts.After-shared-slice-known given Pre Post
 abbrev pub After-shared-slice-known2 : Type 0
 After-shared-slice-known2 = Lts.After-shared-slice-known2 given Pre Post
 
-abbrev pub After-call-in : Type 0
-After-call-in = Lts.After-call-in given Pre Post
+abbrev pub After-read-item : Type 0
+After-read-item = Lts.After-read-item given Pre Post
 
-abbrev pub After-locate-arg : Type 0
-After-locate-arg = Lts.After-locate-arg given Pre Post
+abbrev pub At-match-keys1 : Type 0
+At-match-keys1 = Lts.At-match-keys1 given Pre Post
 
-abbrev pub After-locate : Type 0
-After-locate = Lts.After-locate given Pre Post
+abbrev pub After-read : Type 0
+After-read = Lts.After-read given Pre Post
 
-abbrev pub After-slot-of : Type 0
-After-slot-of = Lts.After-slot-of given Pre Post
+abbrev pub After-known-told : Type 0
+After-known-told = Lts.After-known-told given Pre Post
 
-abbrev pub After-slot : Type 0
-After-slot = Lts.After-slot given Pre Post
+abbrev pub After-from : Type 0
+After-from = Lts.After-from given Pre Post
 
-abbrev pub After-act : Type 0
-After-act = Lts.After-act given Pre Post
+abbrev pub After-early-of : Type 0
+After-early-of = Lts.After-early-of given Pre Post
 
-abbrev pub After-slot-after : Type 0
-After-slot-after = Lts.After-slot-after given Pre Post
+abbrev pub After-serve-item-arg : Type 0
+After-serve-item-arg = Lts.After-serve-item-arg given Pre Post
 
-abbrev pub After-answer-of : Type 0
-After-answer-of = Lts.After-answer-of given Pre Post
+abbrev pub After-serve-item : Type 0
+After-serve-item = Lts.After-serve-item given Pre Post
 
-abbrev pub Need-call-in-requires : Type 0
-Need-call-in-requires = Lts.Need-call-in-requires given Pre Post
+abbrev pub After-table : Type 0
+After-table = Lts.After-table given Pre Post
 
-abbrev pub Need-locate-requires : Type 0
-Need-locate-requires = Lts.Need-locate-requires given Pre Post
+abbrev pub At-match-keys2 : Type 0
+At-match-keys2 = Lts.At-match-keys2 given Pre Post
 
-abbrev pub Need-slot-of-requires : Type 0
-Need-slot-of-requires = Lts.Need-slot-of-requires given Pre Post
+abbrev pub After-read2 : Type 0
+After-read2 = Lts.After-read2 given Pre Post
 
-abbrev pub Need-mul-slot : Type 0
-Need-mul-slot = Lts.Need-mul-slot given Pre Post
+abbrev pub After-known-told2 : Type 0
+After-known-told2 = Lts.After-known-told2 given Pre Post
 
-abbrev pub Need-slice-copy-out-slot : Type 0
-Need-slice-copy-out-slot = Lts.Need-slice-copy-out-slot given Pre Post
+abbrev pub Need-read-item-requires : Type 0
+Need-read-item-requires = Lts.Need-read-item-requires given Pre Post
 
-abbrev pub Need-act-requires : Type 0
-Need-act-requires = Lts.Need-act-requires given Pre Post
+abbrev pub Need-enum-known-read : Type 0
+Need-enum-known-read = Lts.Need-enum-known-read given Pre Post
 
-abbrev pub Need-slot-after-requires : Type 0
-Need-slot-after-requires = Lts.Need-slot-after-requires given Pre Post
+abbrev pub Need-from-requires : Type 0
+Need-from-requires = Lts.Need-from-requires given Pre Post
 
-abbrev pub Need-mul-t11 : Type 0
-Need-mul-t11 = Lts.Need-mul-t11 given Pre Post
+abbrev pub Need-early-of-requires : Type 0
+Need-early-of-requires = Lts.Need-early-of-requires given Pre Post
 
-abbrev pub Need-slice-set-from-table : Type 0
-Need-slice-set-from-table = Lts.Need-slice-set-from-table given Pre Post
+abbrev pub Need-serve-item-requires : Type 0
+Need-serve-item-requires = Lts.Need-serve-item-requires given Pre Post
 
-abbrev pub Need-answer-of-requires : Type 0
-Need-answer-of-requires = Lts.Need-answer-of-requires given Pre Post
+abbrev pub Need-enum-known-read-2 : Type 0
+Need-enum-known-read-2 = Lts.Need-enum-known-read-2 given Pre Post
 
 abbrev pub Need-same-length : Type 0
 Need-same-length = Lts.Need-same-length given Pre Post
@@ -100,10 +94,13 @@ Need-same-length = Lts.Need-same-length given Pre Post
 abbrev pub Need-returns : Type 0
 Need-returns = Lts.Need-returns given Pre Post
 
+abbrev pub Need-returns-2 : Type 0
+Need-returns-2 = Lts.Need-returns-2 given Pre Post
+
 module _ {M : Type 1} where
-  pub spec : Need-call-in-requires → Need-locate-requires → Need-slot-of-requires → Need-mul-slot → Need-slice-copy-out-slot → Need-act-requires → Need-slot-after-requires → Need-mul-t11 → Need-slice-set-from-table → Need-answer-of-requires → Need-same-length → Need-returns → Lts.Closed given Pre Post M
-  spec = λ a0 a1 a2 a3 a4 a5 a6 a7 a8 a9 a10 a11. Lts.spec given Pre Post a0 a1 a2 a3 a4 a5 a6 a7 a8 a9 a10 a11
+  pub spec : Need-read-item-requires → Need-enum-known-read → Need-from-requires → Need-early-of-requires → Need-serve-item-requires → Need-enum-known-read-2 → Need-same-length → Need-returns → Need-returns-2 → Lts.Closed given Pre Post M
+  spec = λ a0 a1 a2 a3 a4 a5 a6 a7 a8. Lts.spec given Pre Post a0 a1 a2 a3 a4 a5 a6 a7 a8
 
   pub close : Lts.Closed given Pre Post M → Statement.statement M
   unfolding Code.routine Running.tablesOf
-  close = λ closed 𝓤 H 𝓜 𝓖 𝓡. let w : World = record { M = M; 𝓤 = 𝓤; H = H; 𝓜 = 𝓜; 𝓖 = 𝓖; 𝓡 = 𝓡 } in Written.close 3 Kinds.ps Kinds.r Ghost requires ensures pre-read Pinned Owned post-read w Code.env Key.name Code.function (Code.unfolded 𝓤 H 𝓜 𝓡) (λ κs a g. tt) (λ κs. owns κs w) (passes w) λ g. closed 𝓤 H (𝓖 .A) (Running.givenOf 𝓤 H 𝓜 𝓖) (Run.Over 𝓤 H 𝓜 𝓖 𝓡 Code.env) (Reads.known w Code.env Symbol.name Symbol.routine Code.calls-forms·item·call-in (Met.met 𝓤 H 𝓜 𝓖 𝓡)) (Reads''.known w Code.env Symbol'.name Symbol'.routine Code.calls-table·lookup·locate (Met'.met 𝓤 H 𝓜 𝓖 𝓡)) (Reads'3.known w Code.env Symbol''.name Symbol''.routine Code.calls-table·lookup·slot-of (Met''.met 𝓤 H 𝓜 𝓖 𝓡)) (Reads'4.known w Code.env Symbol'3.name Symbol'3.routine Code.calls-table·serve·act (Met'3.met 𝓤 H 𝓜 𝓖 𝓡)) (Reads'6.known w Code.env Symbol'5.name Symbol'5.routine Code.calls-table·serve·slot-after (Met'5.met 𝓤 H 𝓜 𝓖 𝓡)) (Reads'5.known w Code.env Symbol'4.name Symbol'4.routine Code.calls-table·serve·answer-of (Met'4.met 𝓤 H 𝓜 𝓖 𝓡))
+  close = λ closed 𝓤 H 𝓜 𝓖 𝓡. let w : World = record { M = M; 𝓤 = 𝓤; H = H; 𝓜 = 𝓜; 𝓖 = 𝓖; 𝓡 = 𝓡 } in Written.close 3 Kinds.ps Kinds.r Ghost requires ensures pre-read Pinned Owned post-read w Code.env Key.name Code.function (Code.unfolded 𝓤 H 𝓜 𝓡) (λ κs a g. tt) (λ κs. owns κs w) (passes w) λ g. closed 𝓤 H (𝓖 .A) (Running.givenOf 𝓤 H 𝓜 𝓖) (Run.Over 𝓤 H 𝓜 𝓖 𝓡 Code.env) (Reads''.known w Code.env Symbol''.name Symbol''.routine Code.calls-forms·item·read-item (Met''.met 𝓤 H 𝓜 𝓖 𝓡)) (Reads'.known w Code.env Symbol'.name Symbol'.routine Code.calls-forms·bytes·from (Met'.met 𝓤 H 𝓜 𝓖 𝓡)) (Reads.known w Code.env Symbol.name Symbol.routine Code.calls-call·setup·early-of (Met.met 𝓤 H 𝓜 𝓖 𝓡)) (Reads'4.known w Code.env Symbol'3.name Symbol'3.routine Code.calls-table·feed·serve-item (Met'3.met 𝓤 H 𝓜 𝓖 𝓡))
