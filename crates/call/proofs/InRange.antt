@@ -16,7 +16,7 @@ use Rattle.forms.specs.Units.{isClockReading, isPeriod, isTimer, isDefaultTimer
 use Rattle.forms.specs.declared.item.Body.the-variants as body
 use Rattle.forms.specs.declared.item.Leg.the-variants.{One, Two}
 use Rattle.forms.proofs.ByteLaws.{and-left, and-right}
-use Rattle.call.specs.Types.{Body, Item, Entry, Leg, Handling, Seconds, Tenths, PointSet, Role, Named, Stage, Mode, Clock, Charge, LegState, Arming, Hold, Number, Record, Check, Stepped, Kind, Opening}
+use Rattle.call.specs.Types.{Body, Item, Entry, Leg, Handling, Seconds, Tenths, PointSet, Role, Named, Stage, Mode, Clock, Charge, LegState, Arming, Hold, Number, Record, Check, Stepped, Kind, Opening, Early}
 use Rattle.call.specs.declared.roles.Role.the-variants as role
 use Rattle.call.specs.declared.record.Presence.the-variants.{Absent, Present}
 use Rattle.call.specs.declared.stages.Stage.the-variants.{Analysing}
@@ -36,13 +36,13 @@ use Rattle.call.specs.Answers.{remains, firstOf, guarded}
 use Rattle.call.specs.Request.{entriesOf, named, isModeFor, isTimerFor, isGood, seenAfter, areGood, noneSeen, keptAfter, armedBy, armedWith}
 use Rattle.call.specs.Events.{holdAfter, legAfter, endsCall, metRecord, met}
 use Rattle.call.specs.Operations.{resumed, continued, connected, dropped, aborted, charged}
-use Rattle.call.specs.Kind.{kindOf, ifSetup, isSetup}
+use Rattle.call.specs.Kind.{kindOf, ifSetup}
 use Rattle.call.specs.Range.{chargeInRangeAs, chargeInRange, holdInRange, armingsInRange, placesInRange, numberInRange, inRangeOf, recordInRange}
-use Rattle.call.specs.Refusals.{row1, row1Time, earlyRows, row3, row7, rowsOf}
+use Rattle.call.specs.Refusals.{row1, row1Time, row3, row7, rowsOf}
 use Rattle.call.specs.Step.{served, respondIn, respondOf, stepOf}
-use Rattle.call.specs.Setup.{opened, begun, openingOf, notOpen, setUpOf, openOf}
+use Rattle.call.specs.Setup.{opened, begun, notOpen, setUpOf, openedBy, openOf}
 use Rattle.call.proofs.Laws.{on-cond, each, passes, no-row}
-use Rattle.call.proofs.SetupLaws.{AsSetup, setup, other, as-setup, setup-kind, open-guarded}
+use Rattle.call.proofs.SetupLaws.{AsSetup, setup, other, as-setup, Comes, refuses, opens, open-comes}
 use Rattle.call.proofs.PointLaws.{place-injective, same-role, every-role, disarm-these, originating-fits, role-exactly, pair-point}
 
 -- ---- a record's tests, one by one
@@ -451,16 +451,9 @@ set-up-left i rest o h a =
 
 pub open-left : (i : Item) (rest s : List ℕ) → isLeftWell originating (i .time) (openOf i rest s) ≡ true
 unfolding itemInRange
-open-left i rest s =
-    let form = formOf (i .body) in
-    let b = allInRange (form .fields) && restInRange (form .rest) rest in
-    let rows = earlyRows (not (itemInRange i rest)) i s in
-    rw (open-guarded i rest s)
-    (guarded-left originating (firstOf rows) _ _ (i .time)
-    (λ e. let q = no-row rows e in
-    go (as-setup (kindOf (i .body) Analysing)) refl (q 1) (body-fits (i .body) Analysing rest (and-left b (isClockReading (i .time)) (not-false (itemInRange i rest) (q 0))))))
+open-left i rest s = open-comes i rest s (λ q. isLeftWell originating (i .time) q ≡ true) refl (λ h e. go h)
   where
-    go : {k : Kind} → AsSetup k → kindOf (i .body) Analysing ≡ k → (isSetup i && not (isProfile (profileOf s) s)) ≡ false → asksFit (kindOf (i .body) Analysing) rest ≡ true
-        → isLeftWell originating (i .time) (ifSetup k (λ n v w c. setUpOf i rest (openingOf (profileOf s) n v w c rest)) notOpen) ≡ true
-    go (setup n v w c) e p a = set-up-left i rest _ (profile-fits s (not-false (isProfile (profileOf s) s) (rw (setup-kind (i .body) Analysing, e) at p))) a
-    go (other f) e p a = rw (f Stepped (λ n v w c. setUpOf i rest (openingOf (profileOf s) n v w c rest)) notOpen)
+    go : itemInRange i rest ≡ true → {e : Early} → Comes i rest s e → isLeftWell originating (i .time) (openedBy i rest e) ≡ true
+    go h (refuses a b) = refl
+    go h (opens o m a p f) = set-up-left i rest o (rw m (profile-fits s p)) (body-fits (i .body) Analysing rest (and-left (allInRange (formOf (i .body) .fields) && restInRange (formOf (i .body) .rest) rest) (isClockReading (i .time)) h))
+    go h (Comes.passes a) = refl

@@ -1,15 +1,13 @@
 -- The numbers of refusals: which of document 01's each public function of `call` that can refuse gives. (Demand 1: "Every entry point answers, or gives one of document 01's numbered refusals.")
 use Prim.Native.Nat.{ℕ}
 use mathlib.Core.Path.{_≡_, refl, sym, ap, _∙_}
-use mathlib.Core.Bool.{Bool, true, false, not, cond, _&&_, _||_, false≢true}
+use mathlib.Core.Bool.{Bool, true, false, cond, _&&_, _||_, false≢true}
 use mathlib.Core.List.{List, [], _∷_, map}
 use lib.Dec.{eqb}
 use borrow.Author.Tests.{eqb-true}
 use Rattle.forms.specs.Bytes.{all, contains}
 use Rattle.forms.proofs.ByteLaws.{and-left, and-right}
-use Rattle.forms.specs.Item.{itemInRange}
-use Rattle.forms.specs.Profile.{profileOf}
-use Rattle.call.specs.Types.{Item, Tenths, Seconds, Handling, PointSet, Number, Role, Record, Answer, Stepped, Kind, Opening}
+use Rattle.call.specs.Types.{Item, Tenths, PointSet, Role, Record, Answer, Stepped, Kind, Opening, Early}
 use Rattle.call.specs.declared.stages.Stage.the-variants.{Analysing}
 use Rattle.call.specs.declared.answers.Answer.the-variants.{Accepted, Refused}
 use Rattle.call.specs.declared.kind.Kind.the-variants as kind
@@ -21,11 +19,11 @@ use Rattle.call.specs.Answers.{Row, isAccepted, firstOf, guarded}
 use Rattle.call.specs.Events.{endsCall, met}
 use Rattle.call.specs.Operations.{dropped, continued, aborted}
 use Rattle.call.specs.Kind.{kindOf, ifSetup}
-use Rattle.call.specs.Refusals.{row1, row1Time, earlyRows, row3, rowsOf}
+use Rattle.call.specs.Refusals.{row1, row1Time, row3, rowsOf}
 use Rattle.call.specs.Step.{served, respondIn, respondOf, stepOf}
-use Rattle.call.specs.Setup.{begun, openingOf, notOpen, setUpOf, openOf}
+use Rattle.call.specs.Setup.{begun, notOpen, setUpOf, openedBy, openOf}
 use Rattle.call.proofs.Laws.{on-cond}
-use Rattle.call.proofs.SetupLaws.{AsSetup, setup, other, as-setup, open-guarded}
+use Rattle.call.proofs.SetupLaws.{AsSetup, setup, other, as-setup, begun-opens, Comes, refuses, opens, passes, open-comes}
 
 -- a refusal's number is one of ns
 abbrev pub isOneOf : List ℕ → Answer → Bool
@@ -117,22 +115,19 @@ openNumbers = 1 ∷ 2 ∷ 4 ∷ []
 abbrev pub setUpNumbers : List ℕ
 setUpNumbers = 1 ∷ 4 ∷ []
 
-begun-one : (dp : PointSet) (b : Bool) (timer : Seconds) (handling : Handling) (number : Number) (t : Tenths) → OneOf setUpNumbers (begun dp b timer handling number t)
-begun-one dp true timer handling number t = refl
-begun-one dp false timer handling number t = refl
-
 pub set-up-numbers : (i : Item) (rest : List ℕ) (o : Opening) → OneOf setUpNumbers (setUpOf i rest o)
 unfolding setUpOf all contains
 set-up-numbers i rest o = guarded-one setUpNumbers (row1Time (i .time) ∷ []) blank _ refl (go (as-setup (kindOf (i .body) Analysing)))
   where
     go : {k : Kind} → AsSetup k → OneOf setUpNumbers (ifSetup k (λ n v w c. begun originating (o .triggered) (o .timer) (o .handling) (numberOf n c rest) (i .time)) notOpen)
-    go (setup n v w c) = begun-one originating (o .triggered) _ _ _ (i .time)
+    go (setup n v w c) = accepted-one setUpNumbers (begun originating (o .triggered) (o .timer) (o .handling) (numberOf n c rest) (i .time) .answer) (begun-opens (o .triggered) (o .timer) (o .handling) (numberOf n c rest) (i .time) .0)
     go (other e) = rw (e Stepped (λ n v w c. begun originating (o .triggered) (o .timer) (o .handling) (numberOf n c rest) (i .time)) notOpen)
 
 pub open-numbers : (i : Item) (rest s : List ℕ) → OneOf openNumbers (openOf i rest s)
 unfolding all contains
-open-numbers i rest s = rw (open-guarded i rest s) (guarded-one openNumbers (earlyRows (not (itemInRange i rest)) i s) blank _ refl (go (as-setup (kindOf (i .body) Analysing))))
+open-numbers i rest s = open-comes i rest s (OneOf openNumbers) refl (λ o e. go)
   where
-    go : {k : Kind} → AsSetup k → OneOf openNumbers (ifSetup k (λ n v w c. setUpOf i rest (openingOf (profileOf s) n v w c rest)) notOpen)
-    go (setup n v w c) = one-of-more setUpNumbers openNumbers (setUpOf i rest (openingOf (profileOf s) n v w c rest) .answer) refl (set-up-numbers i rest (openingOf (profileOf s) n v w c rest))
-    go (other e) = rw (e Stepped (λ n v w c. setUpOf i rest (openingOf (profileOf s) n v w c rest)) notOpen)
+    go : {e : Early} → Comes i rest s e → OneOf openNumbers (openedBy i rest e)
+    go (refuses a b) = refl
+    go (opens o m a b f) = one-of-more setUpNumbers openNumbers (setUpOf i rest o .answer) refl (set-up-numbers i rest o)
+    go (passes a) = refl

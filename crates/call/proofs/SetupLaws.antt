@@ -3,14 +3,12 @@ use Prim.Native.Nat.{ℕ}
 use mathlib.Core.Path.{_≡_, refl, sym, subst, _∙_}
 use mathlib.Core.Bool.{Bool, true, false, not, cond, false≢true}
 use mathlib.Core.List.{List, [], _∷_}
-use lib.Dec.{eqb}
 use denote.Enum.Declared.{tagOf}
 use types.Run.{OneOf, miss}
-use Rattle.forms.specs.Item.{formOf, itemInRange}
+use Rattle.forms.specs.Item.{itemInRange}
 use Rattle.forms.specs.Profile.{profileOf, isProfile}
 use Rattle.forms.specs.Units.{isClockReading}
-use Rattle.forms.specs.declared.item.Body.the-variants as body
-use Rattle.call.specs.Types.{Body, Item, Handling, Seconds, Tenths, Stage, Number, Check, Stepped, Kind, Opening, Early}
+use Rattle.call.specs.Types.{Item, Handling, Seconds, Tenths, Number, Stepped, Kind, Opening, Early}
 use Rattle.call.specs.declared.stages.Stage.the-variants.{Analysing}
 use Rattle.call.specs.declared.refusals.Check.the-variants.{Pass, Fail}
 use Rattle.call.specs.declared.kind.Kind.the-variants as kind
@@ -18,9 +16,8 @@ use Rattle.call.specs.declared.setup.Early.the-variants as early
 use Rattle.call.specs.Kind.{kindOf, ifSetup, isSetup}
 use Rattle.call.specs.Record.{blank, numberOf}
 use Rattle.call.specs.Points.{originating}
-use Rattle.call.specs.Answers.{isAccepted, firstOf, guarded}
-use Rattle.call.specs.Refusals.{earlyRows}
-use Rattle.call.specs.Setup.{begun, openingOf, unlessEarly, earlyOf, notOpen, setUpOf, openedBy, openOf}
+use Rattle.call.specs.Answers.{isAccepted, refused}
+use Rattle.call.specs.Setup.{begun, openingOf, unlessEarly, earlyOf, setUpOf, openedBy, openOf}
 use Rattle.call.proofs.Laws.{time-fits}
 use Rattle.call.proofs.CallTheorems.{isOver}
 use Rattle.call.proofs.kind.Kind.{the-type}
@@ -55,32 +52,12 @@ no-setup A k h f x = go (as-setup k) h
     go (setup n v w c) h = absurd (miss others 0 tt h)
     go (other e) h = e A f x
 
--- a body is a Setup's by its kind's number
-pub setup-kind : (b : Body) (s : Stage) → eqb (formOf b .kind) 1 ≡ ifSetup (kindOf b s) (λ nature service forwarded count. true) false
-setup-kind (body.Setup nature service forwarded count) s = refl
-setup-kind (body.RouteFailure cause) s = refl
-setup-kind (body.Busy cause) s = refl
-setup-kind body.NoAnswer s = refl
-setup-kind body.Seized s = refl
-setup-kind body.Answer s = refl
-setup-kind (body.MidCall digit) s = refl
-setup-kind body.Moved s = refl
-setup-kind (body.Clear l cause) s = refl
-setup-kind (body.PeriodOver l) s = refl
-setup-kind (body.RequestReport count) s = refl
-setup-kind body.Continue s = refl
-setup-kind (body.Connect nature count) s = refl
-setup-kind body.Release s = refl
-setup-kind (body.ApplyCharging l period) s = refl
-setup-kind body.ActivityTest s = refl
-setup-kind body.Abort s = refl
-
 -- ---- a Setup that opens a call is accepted, and the call is not over
 
 abbrev pub Opens : Stepped → Type 0
 Opens s = (isAccepted (s .answer) ≡ true) × (isOver (s .answer) ≡ false)
 
-begun-opens : (b : Bool) (timer : Seconds) (handling : Handling) (number : Number) (t : Tenths) → Opens (begun originating b timer handling number t)
+pub begun-opens : (b : Bool) (timer : Seconds) (handling : Handling) (number : Number) (t : Tenths) → Opens (begun originating b timer handling number t)
 begun-opens true timer handling number t = (refl, refl)
 begun-opens false timer handling number t = (refl, refl)
 
@@ -90,7 +67,7 @@ module _ (i : Item) (rest s : List ℕ) where
   pub early-setup : (n v : ℕ) (w : Bool) (c : ℕ) → kindOf (i .body) Analysing ≡ kind.Setup n v w c
       → cond (isProfile (profileOf s) s) (early.Setup (openingOf (profileOf s) n v w c rest)) (early.Refused 2) ≡ earlyOf false i rest s
   unfolding earlyOf
-  early-setup n v w c e = rw (setup-kind (i .body) Analysing, e) (go (isProfile (profileOf s) s))
+  early-setup n v w c e = rw e (go (isProfile (profileOf s) s))
     where
       go : (b : Bool) → cond b (early.Setup (openingOf (profileOf s) n v w c rest)) (early.Refused 2) ≡ unlessEarly (cond (not b) (Fail 2) Pass) (early.Setup (openingOf (profileOf s) n v w c rest))
       go true = refl
@@ -98,12 +75,12 @@ module _ (i : Item) (rest s : List ℕ) where
 
   pub early-other : ((A : Type 0) (f : ℕ → ℕ → Bool → ℕ → A) (x : A) → ifSetup (kindOf (i .body) Analysing) f x ≡ x) → early.Other ≡ earlyOf false i rest s
   unfolding earlyOf
-  early-other e = rw (setup-kind (i .body) Analysing, e Bool (λ n v w c. true) false, e Early (λ n v w c. early.Setup (openingOf (profileOf s) n v w c rest)) early.Other)
+  early-other e = rw (e Bool (λ n v w c. true) false, e Early (λ n v w c. early.Setup (openingOf (profileOf s) n v w c rest)) early.Other)
 
   -- three things can come early: 2; a Setup, which then opens a call; or nothing
   pub data Comes : Early → Type 0 where
     refuses : isSetup i ≡ true → isProfile (profileOf s) s ≡ false → Comes (early.Refused 2)
-    opens : (o : Opening) → isSetup i ≡ true → isProfile (profileOf s) s ≡ true → (isClockReading (i .time) ≡ true → Opens (setUpOf i rest o)) → Comes (early.Setup o)
+    opens : (o : Opening) → o .timer ≡ profileOf s .timer → isSetup i ≡ true → isProfile (profileOf s) s ≡ true → (isClockReading (i .time) ≡ true → Opens (setUpOf i rest o)) → Comes (early.Setup o)
     passes : isSetup i ≡ false → Comes early.Other
 
   pub comes : Comes (earlyOf false i rest s)
@@ -113,30 +90,25 @@ module _ (i : Item) (rest s : List ℕ) where
       go : {k : Kind} → AsSetup k → kindOf (i .body) Analysing ≡ k → Comes (earlyOf false i rest s)
       go (setup n v w c) e = subst Comes (early-setup n v w c e) (by (isProfile (profileOf s) s) refl)
         where
-          is-setup : isSetup i ≡ true
-          is-setup = rw (setup-kind (i .body) Analysing, e)
-
           by : (b : Bool) → isProfile (profileOf s) s ≡ b → Comes (cond b (early.Setup (openingOf (profileOf s) n v w c rest)) (early.Refused 2))
-          by true p = let o = openingOf (profileOf s) n v w c rest in opens o is-setup p (λ t. rw (t, e) (begun-opens (o .triggered) (o .timer) (o .handling) (numberOf n c rest) (i .time)))
-          by false p = refuses is-setup p
-      go (other f) e = subst Comes (early-other (λ A g x. rw e (f A g x))) (passes (setup-kind (i .body) Analysing ∙ rw e (f Bool (λ n v w c. true) false)))
+          by true p = let o = openingOf (profileOf s) n v w c rest in opens o refl (rw e) p (λ t. rw (t, e) (begun-opens (o .triggered) (o .timer) (o .handling) (numberOf n c rest) (i .time)))
+          by false p = refuses (rw e) p
+      go (other f) e = subst Comes (early-other (λ A g x. rw e (f A g x))) (passes (rw e (f Bool (λ n v w c. true) false)))
 
-  -- so a Setup that is neither malformed nor has a malformed profile opens a call
+  -- so what is opened is 1, or goes by what comes
+  pub open-comes : (P : Stepped → Type 0) → P (refused blank 1) → (itemInRange i rest ≡ true → (e : Early) → Comes e → P (openedBy i rest e)) → P (openOf i rest s)
+  unfolding earlyOf openOf
+  open-comes P h f = go (itemInRange i rest) refl
+    where
+      go : (b : Bool) → itemInRange i rest ≡ b → P (openedBy i rest (earlyOf (not b) i rest s))
+      go true o = f o (earlyOf false i rest s) comes
+      go false o = h
+
   pub setup-opens : itemInRange i rest ≡ true → isSetup i ≡ true → isProfile (profileOf s) s ≡ true → Opens (openOf i rest s)
   unfolding openOf
   setup-opens o h p = rw o (go comes)
     where
       go : {e : Early} → Comes e → Opens (openedBy i rest e)
       go (refuses a b) = absurd (false≢true (sym b ∙ p))
-      go (opens q a b f) = f (time-fits i rest o)
+      go (opens q m a b f) = f (time-fits i rest o)
       go (passes a) = absurd (false≢true (sym a ∙ h))
-
-  -- what is opened is guarded by the early rows
-  pub open-guarded : openOf i rest s ≡ guarded (firstOf (earlyRows (not (itemInRange i rest)) i s)) blank (ifSetup (kindOf (i .body) Analysing) (λ n v w c. setUpOf i rest (openingOf (profileOf s) n v w c rest)) notOpen)
-  unfolding earlyOf openOf
-  open-guarded = go (firstOf (earlyRows (not (itemInRange i rest)) i s)) (as-setup (kindOf (i .body) Analysing))
-    where
-      go : (c : Check) {k : Kind} → AsSetup k → openedBy i rest (unlessEarly c (ifSetup k (λ n v w c. early.Setup (openingOf (profileOf s) n v w c rest)) early.Other)) ≡ guarded c blank (ifSetup k (λ n v w c. setUpOf i rest (openingOf (profileOf s) n v w c rest)) notOpen)
-      go (Fail n) a = refl
-      go Pass (setup n v w c) = refl
-      go Pass (other e) = rw (e Early (λ n v w c. early.Setup (openingOf (profileOf s) n v w c rest)) early.Other, e Stepped (λ n v w c. setUpOf i rest (openingOf (profileOf s) n v w c rest)) notOpen)

@@ -1,12 +1,11 @@
 -- What an item asks of a call at its stage: an event is the role that it meets (document 01, One call).
 use Prim.Native.Nat.{ℕ}
-use mathlib.Core.Bool.{Bool, cond}
-use lib.Dec.{eqb}
-use Rattle.forms.specs.Item.{formOf}
+use mathlib.Core.Bool.{Bool, true, false, cond}
 use Rattle.forms.specs.declared.item.Body.the-variants as body
 use Rattle.forms.specs.declared.item.Leg.the-variants.{One, Two}
 use Rattle.call.specs.Types.{Body, Item, Leg, Role, Stage, Kind}
 use Rattle.call.specs.declared.roles.Role.the-variants.{MidCall, Disconnect1, Abandon, Moved, RouteFailure, Busy, NoAnswer, Answer, Disconnect2, Seized}
+use Rattle.call.specs.declared.stages.Stage.the-variants.{Analysing}
 use Rattle.call.specs.declared.kind.Kind.the-variants as kind
 use Rattle.call.specs.Roles.{isActive}
 
@@ -48,4 +47,4 @@ ifSetup kind.ActivityTest f x = x
 ifSetup kind.Abort f x = x
 
 abbrev pub isSetup : Item → Bool
-isSetup i = eqb (formOf (i .body) .kind) 1
+isSetup i = ifSetup (kindOf (i .body) Analysing) (λ nature service forwarded count. true) false

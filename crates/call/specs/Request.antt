@@ -43,11 +43,6 @@ abbrev pub seenAfter : Named → List Bool → List Bool
 seenAfter Unknown seen = seen
 seenAfter (Known p) seen = set seen (placeOf p) true
 
--- only the code's loop needs it: the place of the role that is named; 0 if none is
-abbrev pub placeNamed : Named → ℕ
-placeNamed Unknown = 0
-placeNamed (Known p) = placeOf p
-
 unfoldable pub areGood : PointSet → List Bool → List Entry → Bool
 areGood dp seen [] = true
 areGood dp seen (e ∷ es) = isGood (named dp e) seen e && areGood dp (seenAfter (named dp e) seen) es
@@ -75,15 +70,6 @@ arePossible dp r (e ∷ es) = isPossible r (named dp e) (e .mode) && arePossible
 abbrev pub keptAfter : Seconds → Seconds → Seconds
 keptAfter timer kept = cond (eqb (timer .0) 0) kept timer
 
--- only the code's loop needs them: what an entry leaves at its place, and what it leaves as the kept timer; what was there if no role is named
-abbrev pub armingAfter : Named → ℕ → Arming → Arming
-armingAfter Unknown m old = old
-armingAfter (Known p) m old = record { mode = modeOf m }
-
-abbrev pub keptFor : Named → Seconds → Seconds → Seconds
-keptFor Unknown timer kept = kept
-keptFor (Known p) timer kept = keptAfter timer kept
-
 -- "each overwrites its point"
 abbrev pub armedBy : Record → Named → Entry → Record
 armedBy r Unknown e = r
@@ -95,3 +81,19 @@ armedWith dp r (e ∷ es) = armedWith dp (armedBy r (named dp e) e) es
 
 abbrev pub requestReport : PointSet → Record → ℕ → List ℕ → Tenths → Stepped
 requestReport dp r n entries t = quietly dp (armedWith dp (timed r t) (entriesOf n entries))
+
+-- ---- only for the code's shape: an entry in a loop that stores in place
+
+-- the place of the role that is named; 0 if none is
+abbrev pub placeNamed : Named → ℕ
+placeNamed Unknown = 0
+placeNamed (Known p) = placeOf p
+
+-- what an entry leaves at its place, and as the kept timer; what was there if no role is named
+abbrev pub armingAfter : Named → ℕ → Arming → Arming
+armingAfter Unknown m old = old
+armingAfter (Known p) m old = record { mode = modeOf m }
+
+abbrev pub keptFor : Named → Seconds → Seconds → Seconds
+keptFor Unknown timer kept = kept
+keptFor (Known p) timer kept = keptAfter timer kept

@@ -5,9 +5,7 @@ ghost use Prim.Native.Nat.{_<_};
 ghost use mathlib.Core.Bool.{false, cond};
 ghost use Rattle.forms.specs.Units.{clockEnd};
 ghost use Rattle.forms.specs.Profile.{profileOf, isProfile};
-ghost use Rattle.call.specs.Record.{numberOf};
-ghost use Rattle.call.specs.Kind.{ifSetup};
-ghost use Rattle.call.specs.Setup.{opened, begun, openingOf, earlyOf, notOpen, setUpOf, openedBy, openOf};
+ghost use Rattle.call.specs.Setup.{opened, begun, openingOf, earlyOf, setUpOf, openOf};
 use crate::answers;
 use crate::answers::*;
 use crate::armings;
@@ -143,14 +141,19 @@ pub fn early_of(item: Item, rest: &[u8], profile: &[u8]) -> Early
     }
 }
 
-// All but a Setup is 4.
-fn set_up_as(k: Kind, t: Tenths, rest: &[u8], o: Opening) -> Stepped
-    requires { ⌜ t .0 < clockEnd ⌝ }
-    ensures { λ s. ⌜ s ≡ ifSetup k (λ nature service forwarded count. begun originating (o .triggered) (o .timer) (o .handling) (numberOf nature count (now (rest .entry))) t) notOpen ⌝ }
+// A Setup opens a call, as `early_of` said; all else is 4. For an owner who knows that the item is in range: of the ranges only the time's is looked at.
+pub fn set_up(item: Item, rest: &[u8], o: Opening) -> Stepped
+    ensures { λ s. ⌜ s ≡ setUpOf item (now (rest .entry)) o ⌝ }
 {
+    let body = item.body;
+    let t = item.time;
     let triggered = o.triggered;
     let timer = o.timer;
     let handling = o.handling;
+    let k = kind::kind_of(body, Stage::Analysing);
+    if t.0 >= Tenths::CLOCK_END.0 {
+        return answers::refuse(record::blank_record(), 1);
+    }
     match k {
         Kind::Setup(nature, _, _, count) => begin(
             triggered,
@@ -163,35 +166,17 @@ fn set_up_as(k: Kind, t: Tenths, rest: &[u8], o: Opening) -> Stepped
     }
 }
 
-// A Setup opens a call, as `early_of` said. For an owner who knows that the item is in range: of the ranges only the time's is looked at.
-pub fn set_up(item: Item, rest: &[u8], o: Opening) -> Stepped
-    ensures { λ s. ⌜ s ≡ setUpOf item (now (rest .entry)) o ⌝ }
-{
-    let body = item.body;
-    let t = item.time;
-    if t.0 < Tenths::CLOCK_END.0 {
-        set_up_as(kind::kind_of(body, Stage::Analysing), t, rest, o)
-    } else {
-        answers::refuse(record::blank_record(), 1)
-    }
-}
-
-fn open_by(item: Item, rest: &[u8], e: Early) -> Stepped
-    ensures { λ s. ⌜ s ≡ openedBy item (now (rest .entry)) e ⌝ }
-{
-    match e {
-        Early::Refused(n) => answers::refuse(record::blank_record(), n),
-        Early::Setup(o) => set_up(item, rest, o),
-        Early::Other => answers::refuse(record::blank_record(), 4),
-    }
-}
-
 // Any item, where no call is open: a Setup opens one.
 pub fn open(item: Item, rest: &[u8], profile: &[u8]) -> Stepped
     ensures { λ s. ⌜ s ≡ openOf item (now (rest .entry)) (now (profile .entry)) ⌝ }
 {
     if item::in_range(item, rest) {
-        open_by(item, rest, early_of(item, rest, profile))
+        let early = early_of(item, rest, profile);
+        match early {
+            Early::Refused(n) => answers::refuse(record::blank_record(), n),
+            Early::Setup(o) => set_up(item, rest, o),
+            Early::Other => answers::refuse(record::blank_record(), 4),
+        }
     } else {
         answers::refuse(record::blank_record(), 1)
     }

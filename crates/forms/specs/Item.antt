@@ -136,7 +136,7 @@ entryOf e = record { point = getD e 0 0; leg = getD e 1 0; mode = getD e 2 0; ti
 unfoldable pub readEntry : List ℕ → ℕ → ReadEntry
 readEntry s a = cond (leb 5 (length (drop a s))) (E.Entry (entryOf (drop a s)) (a + 5)) E.End
 
--- ---- what the code keeps of a row: the fields' bytes in five places; and the 14 bytes before them in a form of n bytes
+-- ---- only for the code's shape: what it keeps of a row, the fields' bytes in five places; and the 14 bytes before them in a form of n bytes
 
 abbrev pub headOf : ℕ → ℕ → ℕ → ℕ → List ℕ
 headOf n kind call time = frame n ++ (kind ∷ (toBytes 4 call ++ toBytes 6 time))

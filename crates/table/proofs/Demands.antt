@@ -162,7 +162,7 @@ each-among (early-of i rest s) = go (comes i rest s)
   where
     go : {e : Early} → Comes i rest s e → Among (2 ∷ []) (inEarly e)
     go (refuses a b) = refl
-    go (opens o a b f) = refl
+    go (opens o m a b f) = refl
     go (passes a) = refl
 each-among (set-up i rest o) = answer-among setUpNumbers (setUpOf i rest o .answer) (set-up-numbers i rest o)
 each-among (open-call i rest s) = answer-among openNumbers (openOf i rest s .answer) (open-numbers i rest s)

@@ -1,7 +1,7 @@
 -- What the code makes of an item that was read is what the table makes of its bytes.
 use Prim.Native.Nat.{ℕ, _^_, _<_}
 use native.Mathlib.Omega.{arith}
-use mathlib.Core.Path.{_≡_, refl, _∙_, subst}
+use mathlib.Core.Path.{_≡_, refl, sym, ap, _∙_, subst}
 use mathlib.Core.Bool.{Bool, true, false, cond, false≢true}
 use mathlib.Core.List.{List, [], _∷_}
 use mathlib.Core.Option.{Option, none, some}
@@ -32,7 +32,7 @@ use Rattle.table.specs.Lookup.{spotOf, locateOf, slotOf}
 use Rattle.table.specs.Serve.{storedAt, servedAt, servedOf, fedBy, fedOf}
 use Rattle.table.proofs.Lists.{Found, found}
 use Rattle.table.proofs.Valid.{sound-valid}
-use Rattle.table.proofs.Ours.{item-fits}
+use Rattle.table.proofs.Ours.{item-fits, open-remains}
 
 -- ---- by where the call stands
 
@@ -56,11 +56,10 @@ module _ (t : List Slot) where
 
   -- so is the record of a call that is opened
   seats : (k i : ℕ) (s : Stepped) → Opens s → storedAt t i k s ≡ (s .answer, set t i (ownedBy k (s .next)))
-  seats k i s = go (s .answer) (s .next)
-    where
-      go : (a : Answer) (next : Record) → Opens (record { answer = a; next = next }) → storedAt t i k (record { answer = a; next = next }) ≡ (a, set t i (ownedBy k next))
-      go (Accepted o) next q = rw (q .1)
-      go (Refused n) next q = absurd (false≢true (q .0))
+  unfolding store
+  seats k i s q =
+      let a = s .answer in
+      stores k i s (sym (open-remains a (recordAt i) blank (s .next) q)) ∙ ap (store ourCall ourSlots t k i) (open-remains a (Effect.refuses a) (Effect.ends a) (Effect.goes a (s .next)) q)
 
   module _ (x : Input) where
     setup-at : (o : Opening) → openOf (itemIn x) (restIn x) (x .profile) ≡ setUpOf (itemIn x) (restIn x) o → Opens (setUpOf (itemIn x) (restIn x) o) → (own free : Option ℕ) → find (isFree ourSlots) t ≡ free
@@ -91,24 +90,15 @@ module _ (t : List Slot) (item profile : List ℕ) where
   abbrev x : Input
   x = record { item = item; profile = profile }
 
-  abbrev own : Option ℕ
-  own = find (owns ourSlots (itemIn x .call)) t
-
-  abbrev free : Option ℕ
-  free = find (isFree ourSlots) t
-
   module _ (e : isItem (itemIn x) item ≡ true) where
-    abbrev comesEarly : Early
-    comesEarly = earlyOf false (itemIn x) (restIn x) profile
-
-    serves : isSoundTable t ≡ true → servedOf t (itemIn x) (restIn x) comesEarly ≡ feedOf t item profile
+    serves : isSoundTable t ≡ true → servedOf t (itemIn x) (restIn x) (earlyOf false (itemIn x) (restIn x) profile) ≡ feedOf t item profile
     unfolding openOf tableStep unless damage serve
     serves sound = go (comes (itemIn x) (restIn x) profile) (rw (item-fits (itemIn x) item e))
       where
         go : {c : Early} → Comes (itemIn x) (restIn x) profile c → openOf (itemIn x) (restIn x) profile ≡ openedBy (itemIn x) (restIn x) c → servedOf t (itemIn x) (restIn x) c ≡ feedOf t item profile
         go (refuses a b) q = rw (e, a, b)
-        go (opens o a b f) q = rw (e, a, b, sound) (setup-at t x o q (f (time-fits (itemIn x) (restIn x) (item-fits (itemIn x) item e))) own free refl)
-        go (passes a) q = rw (e, a, sound) (other-at t x own free)
+        go (opens o m a b f) q = rw (e, a, b, sound) (setup-at t x o q (f (time-fits (itemIn x) (restIn x) (item-fits (itemIn x) item e))) (find (owns ourSlots (itemIn x .call)) t) (find (isFree ourSlots) t) refl)
+        go (passes a) q = rw (e, a, sound) (other-at t x (find (owns ourSlots (itemIn x .call)) t) (find (isFree ourSlots) t))
 
     -- on a sound table refusal 3 is not given, and on any other what came early goes before it
     feeds : fedOf t (itemIn x) (restIn x) profile ≡ feedOf t item profile
@@ -122,11 +112,11 @@ module _ (t : List Slot) (item profile : List ℕ) where
 
         damaged : {c : Early} → Comes (itemIn x) (restIn x) profile c → isSoundTable t ≡ false → fedBy c t (itemIn x) (restIn x) ≡ feedOf t item profile
         damaged (refuses a b) w = rw (e, a, b)
-        damaged (opens o a b f) w = rw (e, a, b, w)
+        damaged (opens o m a b f) w = rw (e, a, b, w)
         damaged (passes a) w = rw (e, a, w)
 
         go : (w : Bool) → isSoundTable t ≡ w → fedOf t (itemIn x) (restIn x) profile ≡ feedOf t item profile
-        go true w = sound-fed comesEarly w ∙ serves w
+        go true w = sound-fed (earlyOf false (itemIn x) (restIn x) profile) w ∙ serves w
         go false w = damaged (comes (itemIn x) (restIn x) profile) w
 
   -- ---- as they were read

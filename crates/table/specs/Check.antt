@@ -1,4 +1,4 @@
--- 'One call twice' over the calls that own slots, which are collected once: `Table.once`, as the code finds it out.
+-- Only for the code's shape: 'one call twice' over the calls that own slots, which are collected once. (`Table.once` says it for the reader; CheckLaws proves them equal.)
 use Prim.Native.Nat.{ℕ}
 use mathlib.Core.Bool.{Bool, true, false, cond, _||_}
 use mathlib.Core.List.{List, [], _∷_}
