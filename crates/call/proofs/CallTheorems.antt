@@ -2,16 +2,12 @@
 use Prim.Native.Nat.{ℕ, zero, suc, _-_, _≤_}
 use mathlib.Core.Path.{_≡_, refl, sym, ap, _∙_}
 use mathlib.Core.Logic.{_↔_}
-use mathlib.Core.Bool.{Bool, true, false, not, cond, Bool·beq, _&&_, _||_, and-true, and-false, true≢false, false≢true}
+use mathlib.Core.Bool.{Bool, true, false, not, cond, _&&_, _||_, and-true, and-false, true≢false, false≢true}
 use mathlib.Core.List.{List, [], _∷_}
 use native.Mathlib.Omega.{arith}
-use lib.Dec.{ltb, eqb}
-use lib.ListN.{length, getD, set, length-set}
-use lib.Seq.{getD-set-other}
-use borrow.Author.Tests.{eqb-true, eqb-false}
-use Rattle.forms.specs.Fields.{legNumber}
+use lib.Dec.{ltb}
+use lib.ListN.{length, getD}
 use Rattle.forms.specs.Item.{itemInRange}
-use Rattle.forms.proofs.ByteLaws.{and-left, and-right}
 use Rattle.call.specs.Types.{Item, Tenths, Leg, PointSet, Role, Stage, Mode, Clock, Charge, LegState, Arming, Hold, Record, Relationship, ChargeReport, Answer, Stepped, Check, Kind}
 use Rattle.forms.specs.declared.item.Leg.the-variants.{One, Two}
 use Rattle.forms.specs.declared.item.Body.the-variants as body
@@ -27,7 +23,7 @@ use Rattle.call.specs.declared.refusals.Check.the-variants.{Pass, Fail}
 use Rattle.call.specs.declared.kind.Kind.the-variants as kind
 use Rattle.forms.specs.Profile.{isRelease}
 use Rattle.call.specs.Roles.{roles, isRole, isActive, losesLeg, every}
-use Rattle.call.specs.Armings.{isMode, someArmed, nothingArmed, unarmed, modeAt, disarmed}
+use Rattle.call.specs.Armings.{isMode, someArmed, nothingArmed, unarmed, modeAt}
 use Rattle.call.specs.Points.{isOnLeg, leaves, disarms, isPointSet}
 use Rattle.call.specs.Record.{waiting, running, isPresent, isPending, isStarted, isHeld, isTrigger, blank, noTimer, legAt}
 use Rattle.call.specs.Charging.{answeredAs, answered, granted, reportAs, reportOf}

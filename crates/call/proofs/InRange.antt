@@ -1,7 +1,7 @@
 -- In range in, in range out: an accepted item that does not end the call leaves a record in range, whose last time is the item's.
 -- A record is in range if eight tests hold (`Fits`), and every next record is the old one with some fields replaced, so a step has only to say which tests it touches.
 use Prim.Native.Nat.{ℕ, zero, suc, _+_, _≤_}
-use mathlib.Core.Path.{_≡_, refl, sym, ap, _∙_, subst}
+use mathlib.Core.Path.{_≡_, refl, ap, _∙_}
 use mathlib.Core.Bool.{Bool, true, false, not, cond, _&&_, _||_, or-true, false≢true}
 use mathlib.Core.List.{List, [], _∷_}
 use native.Mathlib.Omega.{arith}

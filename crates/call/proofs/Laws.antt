@@ -1,17 +1,16 @@
 -- Laws of tests and of the loops, for the proofs of the functions and for the theorems.
 use Prim.Native.Nat.{ℕ, zero, suc, _+_, _-_, _*_, _≤_, _<_}
 use mathlib.Core.Path.{_≡_, refl, sym, ap, _∙_}
-use mathlib.Core.Bool.{Bool, true, false, not, cond, _&&_, _||_, and-true, and-false, and-assoc, or-false, false≢true}
-use mathlib.Core.List.{List, [], _∷_, _++_}
+use mathlib.Core.Bool.{Bool, true, false, not, cond, _&&_, _||_, and-true, and-false, and-assoc, false≢true}
+use mathlib.Core.List.{List, [], _∷_}
 use native.Mathlib.Numerals.{add-one}
 use native.Mathlib.Nat.{sub-eq-zero-of-le}
 use native.Mathlib.Omega.{arith}
 use lib.Dec.{ltb, eqb, eqb·suc-suc}
-use lib.ListN.{length, getD, take, drop, set, drop-of-length-le}
-use lib.Seq.{drop-cons, drop-drop, take-suc-set, set-getD}
+use lib.ListN.{length, getD, drop, set, drop-of-length-le}
+use lib.Seq.{drop-cons, drop-drop, set-getD}
 use borrow.Author.Tests.{ltb-true, ltb-false, lt-ltb, le-ltb, ne-eqb}
 use Rattle.forms.specs.Fields.{isDigit, allInRange}
-use Rattle.forms.specs.Bytes.{pad}
 use Rattle.forms.specs.Item.{formOf, restInRange, itemInRange, entryOf}
 use Rattle.forms.specs.Profile.{viewOf, profileOf, isProfile, readProfile}
 use Rattle.forms.specs.Units.{clockEnd}

@@ -7,7 +7,7 @@ use lib.Dec.{eqb}
 use borrow.Author.Tests.{eqb-true}
 use Rattle.forms.specs.Bytes.{all, contains}
 use Rattle.forms.proofs.ByteLaws.{and-left, and-right}
-use Rattle.call.specs.Types.{Item, Tenths, PointSet, Role, Record, Answer, Stepped, Kind, Opening, Early}
+use Rattle.call.specs.Types.{Item, Tenths, PointSet, Record, Answer, Stepped, Kind, Opening, Early}
 use Rattle.call.specs.declared.stages.Stage.the-variants.{Analysing}
 use Rattle.call.specs.declared.answers.Answer.the-variants.{Accepted, Refused}
 use Rattle.call.specs.declared.kind.Kind.the-variants as kind

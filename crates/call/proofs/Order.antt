@@ -26,7 +26,7 @@ use Rattle.call.specs.Answers.{Row, isAccepted, firstOf, guarded}
 use Rattle.call.specs.Request.{entriesOf, named, isModeFor, isGood, seenAfter, areGood, noneSeen, keptAfter, armedBy, armedWith, requestReport}
 use Rattle.call.specs.Refusals.{row1Time, rowsOf}
 use Rattle.call.specs.Step.{respondIn}
-use Rattle.call.specs.Order.{Request, entries, Apart, Disjoint, asked, inTurn, BothAccepted}
+use Rattle.call.specs.Order.{Request, entries, Apart, Disjoint, inTurn, BothAccepted}
 use Rattle.call.proofs.Laws.{same-tenths, no-row}
 use Rattle.call.proofs.PointLaws.{place-injective, pair-numbers, originating-fits, role-exactly}
 use Rattle.call.proofs.CallTheorems.{not-refused}

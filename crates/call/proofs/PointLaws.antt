@@ -1,6 +1,6 @@
 -- Laws of roles, armings and point sets. What is said of a point set holds of any description that passes `isPointSet`; that document 01's passes is computed.
 use Prim.Native.Nat.{ℕ, zero, suc, _+_, _≤_, _<_}
-use mathlib.Core.Path.{_≡_, refl, sym, ap, subst, _∙_}
+use mathlib.Core.Path.{_≡_, refl, sym, ap, _∙_}
 use mathlib.Core.Logic.{_↔_}
 use mathlib.Core.Bool.{Bool, true, false, not, cond, Bool·beq, _&&_, _||_, false≢true, true≢false}
 use mathlib.Core.List.{List, [], _∷_}
@@ -9,15 +9,15 @@ use native.Mathlib.Omega.{arith}
 use lib.Dec.{eqb, ltb}
 use lib.ListN.{length, getD, drop, set, length-set, drop-of-length-le}
 use lib.Seq.{drop-cons, getD-set-other, set-getD}
-use borrow.Author.Tests.{eqb-true, eqb-false, eq-eqb, ltb-true, not-true}
+use borrow.Author.Tests.{eqb-true, eqb-false, ltb-true, not-true}
 use Rattle.forms.specs.Fields.{legNumber}
 use Rattle.forms.proofs.ByteLaws.{and-left, and-right}
 use Rattle.forms.specs.declared.item.Leg.the-variants.{One, Two}
-use Rattle.call.specs.Types.{Leg, Role, Point, PointSet, Named, Arming}
+use Rattle.call.specs.Types.{Leg, Role, Point, PointSet, Arming}
 use Rattle.call.specs.declared.roles.Role.the-variants as role
 use Rattle.call.specs.declared.stages.Stage.the-variants.{Active}
 use Rattle.call.specs.declared.armings.Mode.the-variants as mode
-use Rattle.call.specs.declared.points.Named.the-variants.{Unknown, Known}
+use Rattle.call.specs.declared.points.Named.the-variants.{Known}
 use Rattle.call.specs.Roles.{metIn, losesLeg, roles, placeOf, isRole, isAmong, every}
 use Rattle.call.specs.Armings.{unarmed, modeAt, disarmed}
 use Rattle.call.specs.Points.{at, originating, isPoint, isPair, isLeg, firstRole, picked, pointIn, isIn, roleIn, isOnLeg, leaves, onLeg, disarms, legFits, numberFits, hasOwnPair, isPointSet}

@@ -14,7 +14,7 @@ use Rattle.forms.specs.declared.profile.Criterion.the-variants as A
 use Rattle.forms.specs.declared.item.Leg.the-variants.{One, Two}
 use Rattle.forms.specs.declared.item.Body.the-variants as B
 use Rattle.forms.specs.declared.profile.Handling.the-variants as D
-use Rattle.call.specs.Types.{Body, Criterion, Item, Handling, Leg, Role, Point, PointSet, Named, Stage, Presence, Mode, Arming, Hold, Clock, Charge, LegState, Number, Record, Report, ChargeReport, Reports, Deadline, Outcome, Answer, Stepped}
+use Rattle.call.specs.Types.{Body, Criterion, Item, Handling, Leg, Role, Point, PointSet, Named, Stage, Presence, Mode, Arming, Hold, Clock, Charge, LegState, Number, Record, Report, ChargeReport, Deadline, Answer, Stepped}
 use Rattle.call.specs.declared.roles.Role.the-variants as P
 use Rattle.call.specs.declared.points.Named.the-variants.{Unknown, Known}
 use Rattle.call.specs.declared.stages.Stage.the-variants.{Analysing, Alerting, Active}

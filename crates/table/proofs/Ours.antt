@@ -2,7 +2,7 @@
 use Prim.Native.Nat.{ℕ}
 use mathlib.Core.Path.{_≡_, refl, sym, ap, _∙_}
 use mathlib.Core.Logic.{_≢_}
-use mathlib.Core.Bool.{Bool, true, false, not, cond, _&&_, _||_, false≢true}
+use mathlib.Core.Bool.{Bool, true, false, not, cond, _&&_, false≢true}
 use mathlib.Core.List.{List, [], _∷_}
 use mathlib.Core.Option.{Option, none, some}
 use native.Mathlib.Omega.{arith}
@@ -22,7 +22,7 @@ use Rattle.call.specs.Setup.{openOf}
 use Rattle.call.specs.Alone.{Input, aloneStep}
 use Rattle.call.specs.Alone as alone
 use Rattle.call.proofs.Blank.{blank-passes}
-use Rattle.call.proofs.SetupLaws.{Opens, setup-opens}
+use Rattle.call.proofs.SetupLaws.{setup-opens}
 use Rattle.call.proofs.InRange.{isLeftWell, respond-left, open-left}
 use Rattle.call.proofs.CallTheorems.{isOver}
 use Rattle.call.proofs.Numbers.{isOneOf, accepted-one, one-of-more, respondNumbers, respond-numbers}
