@@ -6,10 +6,11 @@ use mathlib.Core.List.{List, [], _∷_}
 use lib.Dec.{eqb}
 use lib.ListN.{length, replicate}
 use borrow.Author.Tests.{eqb-true}
+use Rattle.forms.specs.declared.item.Bcsm.the-variants as bcsm
 use Rattle.forms.specs.declared.item.Leg.the-variants.{One, Two}
 use Rattle.forms.specs.declared.profile.Handling.the-variants as handling
 use Rattle.forms.proofs.ByteLaws.{and-left, and-right}
-use Rattle.call.specs.Types.{Handling, Stage, Presence, Clock, LegState, Hold, Mode, Arming, Number, Record}
+use Rattle.call.specs.Types.{Bcsm, Handling, Stage, Presence, Clock, LegState, Hold, Mode, Arming, Number, Record}
 use Rattle.call.specs.declared.stages.Stage.the-variants as stage
 use Rattle.call.specs.declared.record.Presence.the-variants as presence
 use Rattle.call.specs.declared.record.Clock.the-variants as clock
@@ -18,7 +19,7 @@ use Rattle.call.specs.declared.armings.Mode.the-variants as mode
 use Rattle.forms.specs.Profile.{isRelease}
 use Rattle.call.specs.Roles.{isAnalysing}
 use Rattle.call.specs.Armings.{unarmed, isMode, nothingArmed}
-use Rattle.call.specs.Record.{leg, charge, noCharge, isPresent, isPending, isHeld, places, numberOf, legAt, blank}
+use Rattle.call.specs.Record.{leg, charge, noCharge, isPresent, isPending, isHeld, isOriginating, places, numberOf, legAt, blank}
 use Rattle.call.specs.Range.{placesInRange, isUnused, areFieldsBlank, isNoNumber, isBlank}
 use Rattle.call.proofs.Laws.{each}
 
@@ -55,6 +56,10 @@ continues : (h : Handling) → not (isRelease h) ≡ true → h ≡ handling.Con
 continues handling.Continue e = refl
 continues handling.Release e = absurd (false≢true e)
 
+originates : (b : Bcsm) → isOriginating b ≡ true → b ≡ bcsm.Originating
+originates bcsm.Originating h = refl
+originates bcsm.Terminating h = absurd (false≢true h)
+
 -- ---- the armings and the digits
 
 mode-none : (m : Mode) → isMode m mode.None ≡ true → m ≡ mode.None
@@ -84,11 +89,11 @@ number n whole h =
     numbered : (x y : ℕ) (l : List ℕ) → x ≡ 0 → y ≡ 0 → l ≡ replicate places 0 → _≡_ {A = Number} (record { nature = x; count = y; digits = l }) (numberOf 0 0 [])
     numbered x y l e f g = rw (e, f, g)
 
-made-blank : (s : Stage) (l m : LegState) (h : Hold) (t : ℕ) (a : List Arming) (k d : ℕ) (g : Handling) (n : Number)
-    → s ≡ stage.Analysing → l ≡ leg presence.Absent noCharge → m ≡ leg presence.Absent noCharge → h ≡ hold.None → t ≡ 0 → a ≡ replicate 10 unarmed → k ≡ 0 → d ≡ 0 → g ≡ handling.Continue
+made-blank : (s : Stage) (l m : LegState) (h : Hold) (t : ℕ) (a : List Arming) (k d : ℕ) (g : Handling) (b : Bcsm) (n : Number)
+    → s ≡ stage.Analysing → l ≡ leg presence.Absent noCharge → m ≡ leg presence.Absent noCharge → h ≡ hold.None → t ≡ 0 → a ≡ replicate 10 unarmed → k ≡ 0 → d ≡ 0 → g ≡ handling.Continue → b ≡ bcsm.Originating
     → n ≡ numberOf 0 0 []
-    → _≡_ {A = Record} (record { stage = s; leg1 = l .presence; clock1 = l .charge .clock; period1 = l .charge .period; start1 = l .charge .start; leg2 = m .presence; clock2 = m .charge .clock; period2 = m .charge .period; start2 = m .charge .start; hold = h; last = record { 0 = t }; armings = a; kept = record { 0 = k }; timer = record { 0 = d }; handling = g; number = n }) blank
-made-blank s l m h t a k d g n e1 e2 e3 e4 e5 e6 e7 e8 e9 e10 = rw (e1, e2, e3, e4, e5, e6, e7, e8, e9, e10)
+    → _≡_ {A = Record} (record { stage = s; leg1 = l .presence; clock1 = l .charge .clock; period1 = l .charge .period; start1 = l .charge .start; leg2 = m .presence; clock2 = m .charge .clock; period2 = m .charge .period; start2 = m .charge .start; hold = h; last = record { 0 = t }; armings = a; kept = record { 0 = k }; timer = record { 0 = d }; handling = g; bcsm = b; number = n }) blank
+made-blank s l m h t a k d g b n e1 e2 e3 e4 e5 e6 e7 e8 e9 e10 e11 = rw (e1, e2, e3, e4, e5, e6, e7, e8, e9, e10, e11)
 
 pub blank-passes : isBlank blank ≡ true
 unfolding areFieldsBlank isBlank nothingArmed placesInRange
@@ -97,7 +102,7 @@ blank-passes = refl
 pub blank-exactly : (r : Record) → length (r .armings) ≡ 10 → length (r .number .digits) ≡ places → isBlank r ≡ true → r ≡ blank
 unfolding areFieldsBlank isBlank
 blank-exactly r ten whole h =
-    let f = each (isAnalysing (r .stage)) (isUnused (legAt One r) ∷ isUnused (legAt Two r) ∷ not (isHeld (r .hold)) ∷ eqb (r .last .0) 0 ∷ eqb (r .kept .0) 0 ∷ eqb (r .timer .0) 0 ∷ not (isRelease (r .handling)) ∷ nothingArmed (r .armings) ∷ isNoNumber (r .number) ∷ []) h in
-    made-blank (r .stage) (legAt One r) (legAt Two r) (r .hold) (r .last .0) (r .armings) (r .kept .0) (r .timer .0) (r .handling) (r .number)
-    (analysing (r .stage) (f 0)) (unused (legAt One r) (f 1)) (unused (legAt Two r) (f 2)) (not-held (r .hold) (f 3)) (eqb-true (r .last .0) 0 (f 4)) (none-armed (r .armings) (f 8) ∙ rw ten)
-    (eqb-true (r .kept .0) 0 (f 5)) (eqb-true (r .timer .0) 0 (f 6)) (continues (r .handling) (f 7)) (number (r .number) whole (f 9))
+    let f = each (isAnalysing (r .stage)) (isUnused (legAt One r) ∷ isUnused (legAt Two r) ∷ not (isHeld (r .hold)) ∷ eqb (r .last .0) 0 ∷ eqb (r .kept .0) 0 ∷ eqb (r .timer .0) 0 ∷ not (isRelease (r .handling)) ∷ isOriginating (r .bcsm) ∷ nothingArmed (r .armings) ∷ isNoNumber (r .number) ∷ []) h in
+    made-blank (r .stage) (legAt One r) (legAt Two r) (r .hold) (r .last .0) (r .armings) (r .kept .0) (r .timer .0) (r .handling) (r .bcsm) (r .number)
+    (analysing (r .stage) (f 0)) (unused (legAt One r) (f 1)) (unused (legAt Two r) (f 2)) (not-held (r .hold) (f 3)) (eqb-true (r .last .0) 0 (f 4)) (none-armed (r .armings) (f 9) ∙ rw ten)
+    (eqb-true (r .kept .0) 0 (f 5)) (eqb-true (r .timer .0) 0 (f 6)) (continues (r .handling) (f 7)) (originates (r .bcsm) (f 8)) (number (r .number) whole (f 10))

@@ -1,4 +1,4 @@
--- Laws of one call, for a reader: what having no relationship means, charges and their clocks, what a lost leg disarms, what an Answer leaves armed, the order of the refusals, the kept timer.
+-- Laws of one call, for a reader: what having no relationship means, charges and their clocks, what a lost leg disarms, what an Answer leaves armed, the order of the refusals, the kept timer, what an item does to its call, and that the call's kind never changes.
 use Prim.Native.Nat.{ℕ, zero, suc, _-_, _≤_}
 use mathlib.Core.Path.{_≡_, refl, sym, ap, _∙_}
 use mathlib.Core.Logic.{_↔_}
@@ -7,8 +7,9 @@ use mathlib.Core.List.{List, [], _∷_}
 use native.Mathlib.Omega.{arith}
 use lib.Dec.{ltb}
 use lib.ListN.{length, getD}
+use borrow.Author.Tests.{not-false}
 use Rattle.forms.specs.Item.{itemInRange}
-use Rattle.call.specs.Types.{Item, Tenths, Leg, PointSet, Role, Stage, Mode, Clock, Charge, LegState, Arming, Hold, Record, Relationship, ChargeReport, Answer, Stepped, Check, Kind}
+use Rattle.call.specs.Types.{Item, Tenths, Leg, PointSet, Role, Stage, Mode, Clock, Charge, LegState, Arming, Hold, Record, Relationship, ChargeReport, Reports, Deadline, Answer, Stepped, Check, Kind}
 use Rattle.forms.specs.declared.item.Leg.the-variants.{One, Two}
 use Rattle.forms.specs.declared.item.Body.the-variants as body
 use Rattle.call.specs.declared.roles.Role.the-variants as role
@@ -17,25 +18,28 @@ use Rattle.call.specs.declared.armings.Mode.the-variants as mode
 use Rattle.call.specs.declared.record.Hold.the-variants as hold
 use Rattle.call.specs.declared.record.Clock.the-variants as clock
 use Rattle.call.specs.declared.relationship.Relationship.the-variants as relationship
-use Rattle.call.specs.declared.charging.ChargeReport.the-variants as report
+use Rattle.call.specs.declared.charging.ChargeReport.the-variants as due
+use Rattle.call.specs.declared.answers.Report.the-variants as report
+use Rattle.call.specs.declared.answers.Deadline.the-variants as deadline
 use Rattle.call.specs.declared.answers.Answer.the-variants.{Accepted, Refused}
 use Rattle.call.specs.declared.refusals.Check.the-variants.{Pass, Fail}
 use Rattle.call.specs.declared.kind.Kind.the-variants as kind
 use Rattle.forms.specs.Profile.{isRelease}
 use Rattle.call.specs.Roles.{roles, isRole, isActive, losesLeg, every}
 use Rattle.call.specs.Armings.{isMode, someArmed, nothingArmed, unarmed, modeAt}
-use Rattle.call.specs.Points.{isOnLeg, leaves, disarms, isPointSet}
-use Rattle.call.specs.Record.{waiting, running, isPresent, isPending, isStarted, isHeld, isTrigger, blank, noTimer, legAt}
+use Rattle.call.specs.Points.{setOf, isOnLeg, leaves, disarms, isPointSet}
+use Rattle.call.specs.Record.{noCharge, waiting, running, isPresent, isPending, isStarted, isHeld, isTrigger, blank, noTimer, numberOf, legAt, timed, armedAs}
 use Rattle.call.specs.Charging.{answeredAs, answered, granted, reportAs, reportOf}
 use Rattle.call.specs.Relationship.{relationshipOf, isRelated}
-use Rattle.call.specs.Answers.{Row, isAccepted, remains, firstOf, guarded}
-use Rattle.call.specs.Events.{holdAfter, legAfter, endsCall, metRecord, met}
-use Rattle.call.specs.Operations.{routed, continued, dropped, aborted, chargeApplied}
+use Rattle.call.specs.Answers.{Row, isAccepted, remains, firstOf, silent, goesOn, quietly, ended, refused, guarded}
+use Rattle.call.specs.Events.{canMeet, holdAfter, legAfter, endsCall, metRecord, met}
+use Rattle.call.specs.Operations.{after, routeTimer, routed, resumed, continued, connected, dropped, aborted, charged, reportOn, chargeApplied}
+use Rattle.call.specs.Request.{entriesOf, armedWith}
 use Rattle.call.specs.Kind.{kindOf}
 use Rattle.call.specs.Range.{recordInRange}
 use Rattle.call.specs.Refusals.{row1Time, rowsOf}
 use Rattle.call.specs.Step.{served, respondIn, respondOf, stepOf}
-use Rattle.call.proofs.Laws.{on-cond, armed-in}
+use Rattle.call.proofs.Laws.{on-cond, on-guard, passes, no-row, armed-keeps, entries-keep-kind, armed-in}
 use Rattle.call.proofs.PointLaws.{every-same, below, disarm-these, disarmed-length, isPast, answer-row, lost-leg, busy-leg}
 
 -- ---- relationship
@@ -67,8 +71,8 @@ none-exactly r =
 
 -- the time in a charge's report, 0 where there is none
 abbrev pub elapsedIn : ChargeReport → ℕ
-elapsedIn report.None = 0
-elapsedIn (report.Elapsed t) = t .0
+elapsedIn due.None = 0
+elapsedIn (due.Elapsed t) = t .0
 
 -- an elapsed time never exceeds its period
 pub elapsed-within : (t : Tenths) (c : Charge) → elapsedIn (reportOf t c) ≤ c .period .0
@@ -130,7 +134,7 @@ rising (x ∷ y ∷ l) = ltb (x .number) (y .number) && rising (y ∷ l)
 
 -- "Checked in this order": the numbers of the rows that an item meets rise, whatever it asks
 pub rows-rise : (dp : PointSet) (r : Record) (k : Kind) (t : Tenths) (rest : List ℕ) → rising (row1Time t ∷ rowsOf dp r k t rest) ≡ true
-rows-rise dp r (kind.Setup nature service forwarded count) t rest = refl
+rows-rise dp r (kind.Setup b nature service forwarded count) t rest = refl
 rows-rise dp r (kind.Event p) t rest = refl
 rows-rise dp r (kind.PeriodOver l) t rest = refl
 rows-rise dp r (kind.RequestReport n) t rest = refl
@@ -190,7 +194,7 @@ held-exactly p mode.None = refl
 held-exactly p mode.Interrupted = refl
 held-exactly p mode.Notify = refl
 
--- a hold at 2 is a hold
+-- a hold at the trigger is a hold
 pub trigger-held : (h : Hold) → isTrigger h ≡ true → isHeld h ≡ true
 trigger-held hold.None e = e
 trigger-held hold.Trigger e = refl
@@ -219,7 +223,7 @@ isIdleOnceAnswered r =
     not (isMode (modeAt role.Answer (r .armings)) mode.Interrupted) && every (λ q. isPast q || isMode (modeAt q (r .armings)) mode.None) roles
     && not (isPending (r .clock1)) && not (isPending (r .clock2))
 
--- the item i is an Answer, and accepted
+-- the item i is an Answer, and accepted. (Of either kind of call: `respondOf r` is `respondIn (setOf (r .bcsm)) r`.)
 module _ (dp : PointSet) (r : Record) (i : Item) (rest : List ℕ) (is-answer : i .body ≡ body.Answer) (accepted : isAccepted (respondIn dp r i rest .answer) ≡ true) where
   abbrev m : Mode
   m = modeAt role.Answer (r .armings)
@@ -259,44 +263,105 @@ module _ (dp : PointSet) (r : Record) (i : Item) (rest : List ℕ) (is-answer : 
   pub answered-none : length (r .armings) ≡ 10 → (relationshipOf next ≡ relationship.None) ↔ (isIdleOnceAnswered r ≡ true)
   answered-none ten = rw (← idle-answered ten) (none-exactly next)
 
+-- ---- what an item does to its call: it is refused, meets a role, ends the call, or leaves a record
+
+module _ (dp : PointSet) (r : Record) where
+  -- the next record is of the same kind, and held only where the call was
+  abbrev pub Follows : Record → Type 0
+  Follows next = (next .bcsm ≡ r .bcsm) × (isHeld (next .hold) ≡ true → next .hold ≡ r .hold)
+
+  -- an event is reported only where a role is met
+  pub data Does : Stepped → Type 0 where
+    refuses : (n : ℕ) → Does (refused r n)
+    meets : (p : Role) (t : Tenths) → canMeet dp r p ≡ true → Does (met dp r p t)
+    ends : (s : Record) (t : Tenths) → Does (ended s report.None t)
+    goes : (next : Record) (told : Reports) (d : Deadline) → told .event ≡ report.None → Follows next → Does (goesOn dp next told d)
+
+  either : (b : Bool) (x y : Stepped) → Does x → Does y → Does (cond b x y)
+  either = on-cond Does
+
+  quietly-does : (next : Record) → Follows next → Does (quietly dp next)
+  quietly-does next f = goes next silent deadline.None refl f
+
+  routed-does : (s : Record) (t : Tenths) → Follows s → Does (routed dp s t)
+  routed-does s t f = goes (armedAs s (s .armings) noTimer) silent (after t (routeTimer s)) refl f
+
+  -- the hold ends
+  freed : (s : Record) (t : Tenths) → s .bcsm ≡ r .bcsm → Follows (resumed s t)
+  freed s t e = (e, λ h. absurd (false≢true h))
+
+  continued-does : (s : Record) (t : Tenths) → s .bcsm ≡ r .bcsm → Does (continued dp s t)
+  unfolding continued
+  continued-does s t e =
+      either (isPresent (s .leg1) && isPresent (s .leg2)) _ _
+      (either (isTrigger (s .hold)) _ _ (routed-does (resumed s t) t (freed s t e)) (quietly-does (resumed s t) (freed s t e)))
+      (ends s t)
+
+  charged-follows : (l : Leg) (c : Charge) (t : Tenths) → Follows (charged r l c t)
+  charged-follows One c t = (refl, λ h. refl)
+  charged-follows Two c t = (refl, λ h. refl)
+
+  no-event : (l : Leg) (c : ChargeReport) → reportOn l c .event ≡ report.None
+  no-event One c = refl
+  no-event Two c = refl
+
+  served-does : (k : Kind) (t : Tenths) (rest : List ℕ) → firstOf (rowsOf dp r k t rest) ≡ Pass → Does (served dp r k t rest)
+  unfolding aborted
+  served-does (kind.Setup b n s w c) t rest e = refuses 5
+  served-does (kind.Event p) t rest e = meets p t (not-false (canMeet dp r p) (no-row (rowsOf dp r (kind.Event p) t rest) e 2))
+  served-does (kind.PeriodOver l) t rest e = let c = reportOf t (legAt l r .charge) in goes (charged r l noCharge t) (reportOn l c) deadline.None (no-event l c) (charged-follows l noCharge t)
+  served-does (kind.RequestReport n) t rest e =
+      let es = entriesOf n rest in
+      quietly-does (armedWith dp (timed r t) es) (entries-keep-kind dp (timed r t) es, λ h. armed-keeps dp (λ s. s .hold) (λ s a k. refl) es (timed r t))
+  served-does kind.Continue t rest e = continued-does r t refl
+  served-does (kind.Connect n c) t rest e = routed-does (connected r (numberOf n c rest) t) t (freed r t refl)
+  served-does kind.Release t rest e = ends r t
+  served-does (kind.ApplyCharging l p) t rest e = quietly-does (charged r l (granted (r .stage) p t) t) (charged-follows l (granted (r .stage) p t) t)
+  served-does kind.ActivityTest t rest e = quietly-does (timed r t) (refl, λ h. refl)
+  served-does kind.Abort t rest e =
+      either (isRelease (r .handling)) _ _ (ends (dropped r) t)
+      (either (isHeld (r .hold)) _ _ (continued-does (dropped r) t refl) (quietly-does (timed (dropped r) t) (refl, λ h. refl)))
+
+  pub responds : (i : Item) (rest : List ℕ) → Does (respondIn dp r i rest)
+  unfolding respondIn
+  responds i rest =
+      let k = kindOf (i .body) (r .stage) in
+      let rows = rowsOf dp r k (i .time) rest in
+      on-guard Does (firstOf (row1Time (i .time) ∷ rows)) r (served dp r k (i .time) rest) refuses (λ e. served-does k (i .time) rest (passes (row1Time (i .time) .applies) 1 (firstOf rows) e .1))
+
 -- ---- what remains: "A refusal leaves what is kept", and a call that is over leaves a blank record
 
 abbrev pub Remains : Record → Stepped → Type 0
 Remains r s = s .next ≡ remains (s .answer) r blank (s .next)
 
-module _ (dp : PointSet) (r : Record) where
-  either : (b : Bool) (x y : Stepped) → Remains r x → Remains r y → Remains r (cond b x y)
-  either = on-cond (Remains r)
+pub respond-remains : (dp : PointSet) (r : Record) (i : Item) (rest : List ℕ) → Remains r (respondIn dp r i rest)
+unfolding met
+respond-remains dp r i rest = go (responds dp r i rest)
+  where
+    go : {s : Stepped} → Does dp r s → Remains r s
+    go (refuses n) = refl
+    go (meets p t e) = on-cond (Remains r) (endsCall p (modeAt p (r .armings))) _ _ refl refl
+    go (ends s t) = refl
+    go (goes next told d e f) = refl
 
-  continued-remains : (s : Record) (t : Tenths) → Remains r (continued dp s t)
-  unfolding continued
-  continued-remains s t =
-      either (isPresent (s .leg1) && isPresent (s .leg2)) _ _
-      (either (isTrigger (s .hold)) _ _ refl refl)
-      refl
+-- ---- a call's kind never changes while it is open (T-04)
 
-  served-remains : (k : Kind) (t : Tenths) (rest : List ℕ) → Remains r (served dp r k t rest)
-  unfolding met aborted
-  served-remains (kind.Setup n s w c) t rest = refl
-  served-remains (kind.Event p) t rest = either (endsCall p (modeAt p (r .armings))) _ _ refl refl
-  served-remains (kind.PeriodOver l) t rest = refl
-  served-remains (kind.RequestReport n) t rest = refl
-  served-remains kind.Continue t rest = continued-remains r t
-  served-remains (kind.Connect n c) t rest = refl
-  served-remains kind.Release t rest = refl
-  served-remains (kind.ApplyCharging l p) t rest = refl
-  served-remains kind.ActivityTest t rest = refl
-  served-remains kind.Abort t rest =
-      either (isRelease (r .handling)) _ _ refl
-      (either (isHeld (r .hold)) _ _ (continued-remains (dropped r) t) refl)
+abbrev KeepsKind : Record → Stepped → Type 0
+KeepsKind r s = isOver (s .answer) ≡ false → s .next .bcsm ≡ r .bcsm
 
-  guarded-remains : (c : Check) (s : Stepped) → Remains r s → Remains r (guarded c r s)
-  guarded-remains Pass s h = h
-  guarded-remains (Fail n) s h = refl
+kind-kept-in : (dp : PointSet) (r : Record) (i : Item) (rest : List ℕ) → KeepsKind r (respondIn dp r i rest)
+unfolding met
+kind-kept-in dp r i rest = go (responds dp r i rest)
+  where
+    go : {s : Stepped} → Does dp r s → KeepsKind r s
+    go (refuses n) o = refl
+    go (meets p t e) o = on-cond (KeepsKind r) (endsCall p (modeAt p (r .armings))) _ _ (λ o. absurd (true≢false o)) (λ o. refl) o
+    go (ends s t) o = absurd (true≢false o)
+    go (goes next told d e f) o = f .0
 
-  pub respond-remains : (i : Item) (rest : List ℕ) → Remains r (respondIn dp r i rest)
-  unfolding respondIn
-  respond-remains i rest = let k = kindOf (i .body) (r .stage) in guarded-remains (firstOf (row1Time (i .time) ∷ rowsOf dp r k (i .time) rest)) (served dp r k (i .time) rest) (served-remains k (i .time) rest)
+-- an item leaves the record of a call of the same kind, unless the call is over
+pub kind-kept : (r : Record) (i : Item) (rest : List ℕ) → isOver (respondOf r i rest .answer) ≡ false → respondOf r i rest .next .bcsm ≡ r .bcsm
+kind-kept r = kind-kept-in (setOf (r .bcsm)) r
 
 -- ---- ranges
 

@@ -1,4 +1,4 @@
--- Computed cases of a call by itself: document 01's listing example, its edges P2 to P10 ('Both sides of each edge') as far as one call shows them, its five slips, and refusals at their order edges.
+-- Computed cases of a call by itself: document 01's listing example, its edges P2 to P10 ('Both sides of each edge') as far as one call shows them, its five slips, and refusals at their order edges. Beside them T-04's scenarios and readings, and P3, P4, P5, P9 and P10 of a terminating call.
 -- `runs` is a list of runs and the answer to the last item of each: the one statement over P1 to P10 takes it up.
 use Prim.Native.Nat.{ℕ}
 use Prim.Native.String.{String}
@@ -6,14 +6,15 @@ use mathlib.Core.Path.{_≡_, refl}
 use mathlib.Core.Bool.{Bool, true, false}
 use mathlib.Core.List.{List, [], _∷_, _++_, map, flatten}
 use mathlib.Core.Option.{Option, none, some}
-use lib.ListN.{length}
+use lib.ListN.{length, set}
 use Rattle.forms.specs.Bytes.{all, contains, leads, same}
 use Rattle.forms.specs.Item.{itemBytes, itemInRange, restAt, bodyFrom, bodyOf, itemOf, isItem, readItem, entryBytes, entryOf}
 use Rattle.forms.specs.Profile.{fieldsOf, profileBytes, profileInRange, numbersAt, numbersEnd, viewAt, profileOf, isProfile, someMatches}
 use Rattle.forms.proofs.Cases.{p2}
+use Rattle.forms.specs.declared.item.Bcsm.the-variants.{Originating, Terminating}
 use Rattle.forms.specs.declared.item.Leg.the-variants.{One, Two}
 use Rattle.forms.specs.declared.item.Body.the-variants as B
-use Rattle.call.specs.Types.{Body, Leg, Point, Suspension, Report, Reports, ChargeReport, Deadline, Relationship, Record, Answer}
+use Rattle.call.specs.Types.{Bcsm, Body, Leg, Point, Suspension, Report, Reports, ChargeReport, Deadline, Relationship, Record, Answer}
 use Rattle.call.specs.declared.answers.Suspension.the-variants as S
 use Rattle.call.specs.declared.relationship.Relationship.the-variants as R
 use Rattle.call.specs.declared.answers.Report.the-variants.{None, Interrupting, Notification}
@@ -76,6 +77,10 @@ service8 = 0 ∷ 11 ∷ 1 ∷ 0 ∷ 120 ∷ 0 ∷ 0 ∷ 0 ∷ 1 ∷ 8 ∷ 0 ∷ 
 abbrev forwarded : List ℕ
 forwarded = 0 ∷ 10 ∷ 1 ∷ 0 ∷ 120 ∷ 0 ∷ 0 ∷ 0 ∷ 0 ∷ 1 ∷ []
 
+-- the page's: number 5 of nature 3, enabling; service 5; forwarding inhibiting
+abbrev service5 : List ℕ
+service5 = 0x00 ∷ 0x0E ∷ 0x01 ∷ 0x00 ∷ 0x78 ∷ 0x01 ∷ 0x01 ∷ 0x03 ∷ 0x01 ∷ 0x05 ∷ 0x00 ∷ 0x01 ∷ 0x05 ∷ 0x02 ∷ []
+
 abbrev itemWith : List ℕ → ℕ → Body → List ℕ → Input
 itemWith profile t body rest = record { item = itemBytes (record { call = 7; time = record { 0 = t }; body = body }) rest; profile = profile }
 
@@ -86,8 +91,12 @@ item t body = itemWith plain t body []
 abbrev go : Input
 go = item 1000 B.Continue
 
-abbrev setup : List ℕ → List ℕ → Input
-setup profile digits = itemWith profile 1000 (B.Setup 4 0 false (length digits)) digits
+abbrev setup : Bcsm → List ℕ → List ℕ → Input
+setup b profile digits = itemWith profile 1000 (B.Setup b 4 0 false (length digits)) digits
+
+-- to 4, of a service and forwarded or not
+abbrev setupFor : Bcsm → List ℕ → ℕ → Bool → Input
+setupFor b profile service forwarded = itemWith profile 1000 (B.Setup b 4 service forwarded 1) (4 ∷ [])
 
 abbrev connect : ℕ → Input
 connect t = itemWith plain t (B.Connect 4 2) (4 ∷ 6 ∷ [])
@@ -122,11 +131,22 @@ says relationship suspension event = ok relationship suspension (reports event C
 abbrev interrupts : Point → Answer
 interrupts q = says R.Control (S.At q) (Interrupting q)
 
+abbrev stays : Point → Answer
+stays q = says R.Control (S.At q) None
+
+-- "held at point 2 and an interrupting report for 2, leg 1"; T-04: "hold and report are then at 12, leg 1"
+abbrev trigger : Bcsm → Point
+trigger Originating = 2 ╱ One
+trigger Terminating = 12 ╱ One
+
 abbrev triggered : Answer
 triggered = interrupts (2 ╱ One)
 
 abbrev at2 : Answer
-at2 = says R.Control (S.At (2 ╱ One)) None
+at2 = stays (2 ╱ One)
+
+abbrev at12 : Answer
+at12 = stays (12 ╱ One)
 
 -- "ok control - d1300"
 abbrev routes : Relationship → ℕ → Answer
@@ -159,21 +179,52 @@ values = refl
 
 -- ---- the runs
 
+-- held at the trigger of a kind of call
+abbrev begun : Bcsm → List Input
+begun b = setup b plain (4 ∷ 9 ∷ 1 ∷ 5 ∷ []) ∷ []
+
 abbrev held : List Input
-held = setup plain (4 ∷ 9 ∷ 1 ∷ 5 ∷ []) ∷ []
+held = begun Originating
 
 -- period 600 on leg 2; answered at 5000 (P1)
-abbrev granted : List Input
-granted = held ++ (charge Two 600 ∷ go ∷ [])
+abbrev granted : Bcsm → List Input
+granted b = begun b ++ (charge Two 600 ∷ go ∷ [])
 
-abbrev answered : List Input
-answered = granted ++ (item 5000 B.Answer ∷ [])
+abbrev answered : Bcsm → List Input
+answered b = granted b ++ (item 5000 B.Answer ∷ [])
+
+-- ---- edges in a kind of call, whose points have the numbers given
+
+-- P4 Period over at 5599 is 14, at 5600 reports 600
+abbrev p4 : Bcsm → List Case
+p4 b = along (answered b) (item 5599 (B.PeriodOver Two) ▸ Refused 14 ∷ item 5600 (B.PeriodOver Two) ▸ bills2 600 false ∷ [])
+
+-- P5 Clear of leg 2 at 5123 reports 123, at 5700 reports 600
+abbrev p5 : Bcsm → List Case
+p5 b = along (answered b) (item 5123 (B.Clear Two 16) ▸ bills2 123 true ∷ []) ++ along (answered b) (item 5700 (B.Clear Two 16) ▸ bills2 600 true ∷ [])
+
+-- P9 Busy leaves Abandon armed: Clear of leg 1 notifies it
+abbrev p9 : Bcsm → ℕ → ℕ → List Case
+p9 b busy abandon = along (begun b)
+    (arm 1000 (entry busy 2 0 0 ∷ entry abandon 1 1 0 ∷ []) ▸ stays (trigger b) ∷ go ▸ routes R.Control 2200
+    ∷ item 2000 (B.Busy 17) ▸ interrupts (busy ╱ Two) ∷ item 2010 (B.Clear One 16) ▸ ends (Notification (abandon ╱ One)) ∷ [])
+
+-- P10 timer 2047 accepted, 2048 is 11
+abbrev p10 : Bcsm → ℕ → List Case
+p10 b noAnswer = along (begun b)
+    (arm 1000 (entry noAnswer 2 0 2048 ∷ []) ▸ Refused 11 ∷ arm 1000 (entry noAnswer 2 0 2047 ∷ []) ▸ stays (trigger b) ∷ go ▸ routes R.Control 21470 ∷ [])
+
+-- T-04, leg of 16 and 51: Busy disarms the points of leg 2, and Connect follows. Are Moved and Mid-call, on this leg, among them?
+abbrev follows : Bcsm → ℕ → ℕ → ℕ → ℕ → Relationship → List Case
+follows b busy moved midCall leg relationship = along (begun b)
+    (arm 1000 (entry busy 2 0 0 ∷ entry moved leg 1 0 ∷ entry midCall leg 1 0 ∷ []) ▸ stays (trigger b) ∷ go ▸ routes R.Control 2200
+    ∷ item 2000 (B.Busy 17) ▸ interrupts (busy ╱ Two) ∷ connect 2010 ▸ routes relationship 3210 ∷ [])
 
 abbrev pub runs : List Case
 runs =
     -- the listing; line 2 is P2, line 3 is P3
     along []
-    (setup plain (4 ∷ 9 ∷ 1 ∷ 5 ∷ []) ▸ triggered
+    (setup Originating plain (4 ∷ 9 ∷ 1 ∷ 5 ∷ []) ▸ triggered
     ∷ record { item = p2; profile = plain } ▸ at2
     ∷ go ▸ routes R.Control 1300
     ∷ item 1300 B.NoAnswer ▸ interrupts (6 ╱ Two)
@@ -182,27 +233,78 @@ runs =
     ∷ [])
     -- P3 with no kept timer: the default
     ++ along held (go ▸ routes R.None 2200 ∷ [])
-    -- P4 Period over at 5599 is 14, at 5600 reports 600
-    ++ along answered (item 5599 (B.PeriodOver Two) ▸ Refused 14 ∷ item 5600 (B.PeriodOver Two) ▸ bills2 600 false ∷ [])
-    -- P5 Clear of leg 2 at 5123 reports 123, at 5700 reports 600
-    ++ along answered (item 5123 (B.Clear Two 16) ▸ bills2 123 true ∷ [])
-    ++ along answered (item 5700 (B.Clear Two 16) ▸ bills2 600 true ∷ [])
+    -- P4
+    ++ p4 Originating
+    -- P5
+    ++ p5 Originating
     -- P6 stored 491 matches 4915 and 491, not 49
-    ++ along [] (setup (stored 1) (4 ∷ 9 ∷ 1 ∷ 5 ∷ []) ▸ triggered ∷ [])
-    ++ along [] (setup (stored 1) (4 ∷ 9 ∷ 1 ∷ []) ▸ triggered ∷ [])
-    ++ along [] (setup (stored 1) (4 ∷ 9 ∷ []) ▸ routes R.None 2200 ∷ [])
+    ++ along [] (setup Originating (stored 1) (4 ∷ 9 ∷ 1 ∷ 5 ∷ []) ▸ triggered ∷ [])
+    ++ along [] (setup Originating (stored 1) (4 ∷ 9 ∷ 1 ∷ []) ▸ triggered ∷ [])
+    ++ along [] (setup Originating (stored 1) (4 ∷ 9 ∷ []) ▸ routes R.None 2200 ∷ [])
     -- P7 period 864000 accepted, 864001 and 0 malformed
     ++ along held (charge Two 864001 ▸ Refused 1 ∷ charge Two 0 ▸ Refused 1 ∷ charge Two 864000 ▸ at2 ∷ [])
     -- P8, what one call shows: no open call is 4, a Setup for an open call 5
-    ++ along [] (item 1000 B.Answer ▸ Refused 4 ∷ setup plain (4 ∷ []) ▸ triggered ∷ setup plain (4 ∷ []) ▸ Refused 5 ∷ [])
-    -- P9 Busy leaves Abandon armed: Clear of leg 1 notifies it
-    ++ along held
-    (arm 1000 (entry 5 2 0 0 ∷ entry 10 1 1 0 ∷ []) ▸ at2 ∷ go ▸ routes R.Control 2200
-    ∷ item 2000 (B.Busy 17) ▸ interrupts (5 ╱ Two) ∷ item 2010 (B.Clear One 16) ▸ ends (Notification (10 ╱ One)) ∷ [])
-    -- P10 timer 2047 accepted, 2048 is 11
-    ++ along held (arm 1000 (entry 6 2 0 2048 ∷ []) ▸ Refused 11 ∷ arm 1000 (entry 6 2 0 2047 ∷ []) ▸ at2 ∷ go ▸ routes R.Control 21470 ∷ [])
+    ++ along [] (item 1000 B.Answer ▸ Refused 4 ∷ setup Originating plain (4 ∷ []) ▸ triggered ∷ setup Originating plain (4 ∷ []) ▸ Refused 5 ∷ [])
+    -- P9
+    ++ p9 Originating 5 10
+    -- P10
+    ++ p10 Originating 6
+    -- P3, terminating: no kept timer. (With one: T-04's first scenario.)
+    ++ along (begun Terminating) (go ▸ routes R.None 2200 ∷ [])
+    -- P4, terminating
+    ++ p4 Terminating
+    -- P5, terminating
+    ++ p5 Terminating
+    -- P9, terminating
+    ++ p9 Terminating 13 18
+    -- P10, terminating
+    ++ p10 Terminating 14
+    -- T-04's scenarios: a follow-on call; Answer disarms 27 and 15 (T-01's twin); the service alone triggers. (The third is P9, terminating.)
+    ++ along []
+    (setup Terminating plain (4 ∷ 9 ∷ 1 ∷ 5 ∷ []) ▸ interrupts (12 ╱ One)
+    ∷ arm 1000 (entry 14 2 0 30 ∷ entry 13 2 0 0 ∷ entry 18 1 1 0 ∷ []) ▸ at12
+    ∷ go ▸ routes R.Control 1300
+    ∷ item 1050 B.Seized ▸ says R.Control S.None None
+    ∷ item 1300 B.NoAnswer ▸ interrupts (14 ╱ Two)
+    ∷ arm 1300 (entry 15 2 1 0 ∷ []) ▸ stays (14 ╱ Two)
+    ∷ connect 1310 ▸ routes R.Monitor 2510
+    ∷ item 1400 B.Answer ▸ says R.None S.None (Notification (15 ╱ Two))
+    ∷ item 1500 (B.Clear One 16) ▸ ends None
+    ∷ [])
+    ++ along (begun Terminating)
+    (arm 1000 (entry 27 2 1 0 ∷ entry 15 2 1 0 ∷ []) ▸ at12 ∷ go ▸ routes R.Monitor 2200 ∷ item 5000 B.Answer ▸ says R.None S.None (Notification (15 ╱ Two)) ∷ [])
+    ++ along [] (setupFor Terminating service5 5 false ▸ interrupts (12 ╱ One) ∷ [])
+    ++ along [] (setupFor Terminating service5 6 false ▸ routes R.None 2200 ∷ [])
+    ++ along [] (setupFor Originating service5 5 false ▸ routes R.None 2200 ∷ [])
+    -- T-04's readings. "Route failure while held": 9, else 12, after an Abort too
+    ++ along (begun Terminating) (item 1000 (B.RouteFailure 3) ▸ Refused 9 ∷ go ▸ routes R.None 2200 ∷ item 1000 (B.RouteFailure 3) ▸ Refused 12 ∷ [])
+    ++ along (begun Terminating) (item 1000 B.Abort ▸ routes R.None 2200 ∷ item 1000 (B.RouteFailure 3) ▸ Refused 12 ∷ [])
+    -- "leg of 16 and 51": leg 2
+    ++ follows Terminating 13 51 16 2 R.None
+    ++ follows Originating 5 50 8 1 R.Monitor
+    -- "Connect": stays terminating; after it 15 may be met, 7 of leg 2 is 11
+    ++ along (begun Terminating)
+    (arm 1000 (entry 15 2 0 0 ∷ []) ▸ at12 ∷ connect 1000 ▸ routes R.Control 2200 ∷ arm 1000 (entry 7 2 0 0 ∷ []) ▸ Refused 11
+    ∷ item 5000 B.Answer ▸ interrupts (15 ╱ Two) ∷ [])
+    -- "the other kind's pairs": 11, before any 12
+    ++ along (begun Terminating)
+    (arm 1000 (entry 5 2 0 0 ∷ []) ▸ Refused 11 ∷ arm 1000 (entry 16 1 1 0 ∷ []) ▸ Refused 11 ∷ arm 1000 (entry 19 2 1 0 ∷ []) ▸ Refused 11
+    ∷ arm 1000 (entry 27 2 0 0 ∷ []) ▸ at12 ∷ go ▸ routes R.Control 2200 ∷ item 1100 B.Seized ▸ interrupts (27 ╱ Two)
+    ∷ arm 1100 (entry 27 2 1 0 ∷ entry 7 2 1 0 ∷ []) ▸ Refused 11 ∷ arm 1100 (entry 27 2 1 0 ∷ []) ▸ Refused 12 ∷ [])
+    -- "5": by the call's number, whatever the kinds
+    ++ along (begun Terminating) (setup Originating plain (4 ∷ []) ▸ Refused 5 ∷ [])
+    ++ along held (setup Terminating plain (4 ∷ []) ▸ Refused 5 ∷ [])
+    -- "unarmed T_Busy, T_No_Answer": never a trigger
+    ++ along [] (setup Terminating service8 (4 ∷ []) ▸ routes R.None 2200 ∷ item 2000 (B.Busy 17) ▸ ends None ∷ [])
+    -- "forwarded flag": 0 or 1, unused; 2 is 1. (It stands at place 16 of the item.)
+    ++ along [] (setup Terminating forwarded (4 ∷ []) ▸ interrupts (12 ╱ One) ∷ [])
+    ++ along []
+    (record { item = set (setupFor Terminating plain 0 true .item) 16 2; profile = plain } ▸ Refused 1
+    ∷ setupFor Terminating service5 5 true ▸ interrupts (12 ╱ One) ∷ [])
+    -- document 01's profile of a Setup: malformed is 2, for kind 11 too
+    ++ along [] (setup Terminating [] (4 ∷ []) ▸ Refused 2 ∷ [])
     -- slip, a charge clock started at the grant: none runs before the Answer
-    ++ along granted (item 5600 (B.PeriodOver Two) ▸ Refused 12 ∷ [])
+    ++ along (granted Originating) (item 5600 (B.PeriodOver Two) ▸ Refused 12 ∷ [])
     -- slip, an unarmed Answer that disarms nothing
     ++ along held
     (arm 1000 (entry 4 2 0 0 ∷ entry 5 2 0 0 ∷ entry 6 2 0 0 ∷ entry 10 1 0 0 ∷ []) ▸ at2 ∷ go ▸ routes R.Control 2200
@@ -214,7 +316,7 @@ runs =
     -- nor does the kept timer hold it, which outlives the arming of 6
     ++ along held
     (arm 1000 (entry 19 2 0 0 ∷ []) ▸ at2 ∷ go ▸ routes R.Control 2200 ∷ item 1100 B.Seized ▸ interrupts (19 ╱ Two)
-    ∷ arm 1100 (entry 6 2 1 30 ∷ []) ▸ says R.Control (S.At (19 ╱ Two)) None ∷ arm 1100 (entry 6 2 2 0 ∷ []) ▸ says R.Control (S.At (19 ╱ Two)) None
+    ∷ arm 1100 (entry 6 2 1 30 ∷ []) ▸ stays (19 ╱ Two) ∷ arm 1100 (entry 6 2 2 0 ∷ []) ▸ stays (19 ╱ Two)
     ∷ item 1100 B.Continue ▸ says R.None S.None None ∷ [])
     -- slip, a TNRy reused on the follow-on call
     ++ along held
@@ -224,7 +326,7 @@ runs =
     ++ along held (arm 1000 (entry 6 2 0 30 ∷ entry 5 2 3 0 ∷ []) ▸ Refused 11 ∷ go ▸ routes R.None 2200 ∷ [])
     -- 2 before 5; 9 before 12; 7 before 8; 8 before 10
     ++ along held
-    (setup [] (4 ∷ []) ▸ Refused 2 ∷ item 1000 (B.MidCall 1) ▸ Refused 9 ∷ go ▸ routes R.None 2200
+    (setup Originating [] (4 ∷ []) ▸ Refused 2 ∷ item 1000 (B.MidCall 1) ▸ Refused 9 ∷ go ▸ routes R.None 2200
     ∷ item 1000 (B.MidCall 1) ▸ Refused 12 ∷ item 999 B.Continue ▸ Refused 7 ∷ go ▸ Refused 8 ∷ [])
     -- 10 before 12; 11 before 12, for a bad entry after an impossible one
     ++ along held
@@ -236,14 +338,14 @@ runs =
     (arm 1000 (entry 10 1 0 0 ∷ []) ▸ at2 ∷ charge Two 600 ▸ at2 ∷ charge Two 600 ▸ Refused 13
     ∷ item 1000 (B.Clear One 16) ▸ interrupts (10 ╱ One) ∷ charge Two 600 ▸ Refused 12 ∷ [])
     -- triggering: inhibiting, a length, a service, forwarded calls only
-    ++ along [] (setup (stored 2) (4 ∷ 9 ∷ 1 ∷ 5 ∷ []) ▸ routes R.None 2200 ∷ [])
-    ++ along [] (setup (stored 2) (4 ∷ 9 ∷ []) ▸ triggered ∷ [])
-    ++ along [] (setup fourDigits (1 ∷ 2 ∷ 3 ∷ 4 ∷ []) ▸ triggered ∷ [])
-    ++ along [] (setup fourDigits (1 ∷ 2 ∷ 3 ∷ []) ▸ routes R.None 2200 ∷ [])
-    ++ along [] (itemWith service8 1000 (B.Setup 4 8 false 1) (4 ∷ []) ▸ triggered ∷ [])
-    ++ along [] (setup service8 (4 ∷ []) ▸ routes R.None 2200 ∷ [])
-    ++ along [] (itemWith forwarded 1000 (B.Setup 4 0 true 1) (4 ∷ []) ▸ triggered ∷ [])
-    ++ along [] (setup forwarded (4 ∷ []) ▸ routes R.None 2200 ∷ [])
+    ++ along [] (setup Originating (stored 2) (4 ∷ 9 ∷ 1 ∷ 5 ∷ []) ▸ routes R.None 2200 ∷ [])
+    ++ along [] (setup Originating (stored 2) (4 ∷ 9 ∷ []) ▸ triggered ∷ [])
+    ++ along [] (setup Originating fourDigits (1 ∷ 2 ∷ 3 ∷ 4 ∷ []) ▸ triggered ∷ [])
+    ++ along [] (setup Originating fourDigits (1 ∷ 2 ∷ 3 ∷ []) ▸ routes R.None 2200 ∷ [])
+    ++ along [] (setupFor Originating service8 8 false ▸ triggered ∷ [])
+    ++ along [] (setup Originating service8 (4 ∷ []) ▸ routes R.None 2200 ∷ [])
+    ++ along [] (setupFor Originating forwarded 0 true ▸ triggered ∷ [])
+    ++ along [] (setup Originating forwarded (4 ∷ []) ▸ routes R.None 2200 ∷ [])
     -- two charges, of leg 1 first: at the end of the call, and for a caller who hangs up while the call is held
     ++ along held
     (charge One 100 ▸ at2 ∷ charge Two 600 ▸ at2 ∷ go ▸ routes R.Monitor 2200 ∷ item 5000 B.Answer ▸ says R.Monitor S.None None
@@ -263,15 +365,15 @@ runs =
     -- Abort: held at 2, the kept timer and the charge dropped; not held; with default release
     ++ along held (arm 1000 (entry 6 2 0 30 ∷ []) ▸ at2 ∷ charge Two 600 ▸ at2 ∷ item 1000 B.Abort ▸ routes R.None 2200 ∷ [])
     ++ along held (arm 1000 (entry 9 2 0 0 ∷ []) ▸ at2 ∷ go ▸ routes R.Control 2200 ∷ item 1000 B.Abort ▸ says R.None S.None None ∷ [])
-    ++ along [] (setup releasing (4 ∷ []) ▸ triggered ∷ charge Two 600 ▸ at2 ∷ item 1000 B.Abort ▸ ends None ∷ [])
+    ++ along [] (setup Originating releasing (4 ∷ []) ▸ triggered ∷ charge Two 600 ▸ at2 ∷ item 1000 B.Abort ▸ ends None ∷ [])
     -- mode 2 disarms; 50 takes no mode 0; any point can be armed without leg 2, none without leg 1, but for mode 2
     ++ along held (arm 1000 (entry 5 2 0 0 ∷ []) ▸ at2 ∷ arm 1000 (entry 5 2 2 0 ∷ []) ▸ at2 ∷ arm 1000 (entry 50 1 0 0 ∷ []) ▸ Refused 11 ∷ go ▸ routes R.None 2200 ∷ [])
     ++ along held
     (arm 1000 (entry 9 2 0 0 ∷ []) ▸ at2 ∷ go ▸ routes R.Control 2200 ∷ item 5000 B.Answer ▸ says R.Control S.None None ∷ item 5100 (B.Clear Two 16) ▸ interrupts (9 ╱ Two)
-    ∷ arm 5100 (entry 4 2 1 0 ∷ []) ▸ says R.Control (S.At (9 ╱ Two)) None ∷ [])
+    ∷ arm 5100 (entry 4 2 1 0 ∷ []) ▸ stays (9 ╱ Two) ∷ [])
     ++ along held
     (arm 1000 (entry 10 1 0 0 ∷ []) ▸ at2 ∷ item 1000 (B.Clear One 16) ▸ interrupts (10 ╱ One)
-    ∷ arm 1000 (entry 9 2 1 0 ∷ []) ▸ Refused 12 ∷ arm 1000 (entry 9 2 2 0 ∷ []) ▸ says R.Control (S.At (10 ╱ One)) None ∷ [])
+    ∷ arm 1000 (entry 9 2 1 0 ∷ []) ▸ Refused 12 ∷ arm 1000 (entry 9 2 2 0 ∷ []) ▸ stays (10 ╱ One) ∷ [])
 
 pub cases : map lastAnswer runs ≡ map (λ (c : Case). c .answer) runs
 unfolding flatten all contains leads same itemBytes itemInRange restAt bodyFrom bodyOf itemOf isItem readItem entryOf fieldsOf profileBytes profileInRange numbersAt numbersEnd viewAt profileOf isProfile someMatches triggers someArmed entriesOf areGood arePossible armedWith met continued aborted respondIn earlyOf setUpOf openOf aloneStep

@@ -1,4 +1,4 @@
--- In range in, in range out: an accepted item that does not end the call leaves a record in range, whose last time is the item's.
+-- In range in, in range out: an accepted item that does not end the call leaves a record in range, whose last time is the item's. The record's points are those of its own kind, which is the call's before.
 -- A record is in range if eight tests hold (`Fits`), and every next record is the old one with some fields replaced, so a step has only to say which tests it touches.
 use Prim.Native.Nat.{ℕ, zero, suc, _+_, _≤_}
 use mathlib.Core.Path.{_≡_, refl, ap, _∙_}
@@ -16,7 +16,7 @@ use Rattle.forms.specs.Units.{isClockReading, isPeriod, isTimer, isDefaultTimer
 use Rattle.forms.specs.declared.item.Body.the-variants as body
 use Rattle.forms.specs.declared.item.Leg.the-variants.{One, Two}
 use Rattle.forms.proofs.ByteLaws.{and-left, and-right}
-use Rattle.call.specs.Types.{Body, Item, Entry, Leg, Handling, Seconds, Tenths, PointSet, Role, Named, Stage, Mode, Clock, Charge, LegState, Arming, Hold, Number, Record, Check, Stepped, Kind, Opening, Early}
+use Rattle.call.specs.Types.{Bcsm, Body, Item, Entry, Leg, Handling, Seconds, Tenths, PointSet, Role, Named, Stage, Mode, Clock, Charge, LegState, Arming, Hold, Number, Record, Answer, Stepped, Kind, Opening, Early}
 use Rattle.call.specs.declared.roles.Role.the-variants as role
 use Rattle.call.specs.declared.record.Presence.the-variants.{Absent, Present}
 use Rattle.call.specs.declared.stages.Stage.the-variants.{Analysing}
@@ -24,15 +24,16 @@ use Rattle.call.specs.declared.points.Named.the-variants.{Unknown, Known
 use Rattle.call.specs.declared.armings.Mode.the-variants as mode
 use Rattle.call.specs.declared.record.Clock.the-variants as clock
 use Rattle.call.specs.declared.record.Hold.the-variants as hold
-use Rattle.call.specs.declared.refusals.Check.the-variants.{Pass, Fail}
+use Rattle.call.specs.declared.answers.Answer.the-variants.{Accepted, Refused}
+use Rattle.call.specs.declared.refusals.Check.the-variants.{Pass}
 use Rattle.call.specs.declared.kind.Kind.the-variants as kind
 use Rattle.forms.specs.Profile.{isRelease}
 use Rattle.call.specs.Roles.{roles, placeOf, isRole, isAmong, every, isActive}
 use Rattle.call.specs.Armings.{isMode, modeOf, unarmed, noArmings, modeAt, disarmed}
-use Rattle.call.specs.Points.{originating, pointIn, isIn, leaves, disarms, isPointSet}
-use Rattle.call.specs.Record.{places, setOf, leg, charge, noCharge, waiting, running, isPresent, numberOf, legAt, timed, staged, withLegs, withLeg, armedAs, numbered, isHeld, isTrigger}
+use Rattle.call.specs.Points.{setOf, pointIn, isIn, leaves, disarms, isPointSet}
+use Rattle.call.specs.Record.{places, leg, charge, noCharge, waiting, running, isPresent, numberOf, legAt, timed, staged, withLegs, withLeg, armedAs, numbered, isHeld, isTrigger}
 use Rattle.call.specs.Charging.{answeredAs, answered, granted}
-use Rattle.call.specs.Answers.{remains, firstOf, guarded}
+use Rattle.call.specs.Answers.{remains, firstOf}
 use Rattle.call.specs.Request.{entriesOf, named, isModeFor, isTimerFor, isGood, seenAfter, areGood, noneSeen, keptAfter, armedBy, armedWith}
 use Rattle.call.specs.Events.{holdAfter, legAfter, endsCall, metRecord, met}
 use Rattle.call.specs.Operations.{resumed, continued, connected, dropped, aborted, charged}
@@ -41,9 +42,10 @@ use Rattle.call.specs.Range.{chargeInRangeAs, chargeInRange, holdInRange
 use Rattle.call.specs.Refusals.{row1, row1Time, row3, row7, rowsOf}
 use Rattle.call.specs.Step.{served, respondIn, respondOf, stepOf}
 use Rattle.call.specs.Setup.{opened, begun, notOpen, setUpOf, openedBy, openOf}
-use Rattle.call.proofs.Laws.{on-cond, each, passes, no-row}
+use Rattle.call.proofs.Laws.{on-cond, on-guard, each, passes, no-row, armed-keeps}
+use Rattle.call.proofs.CallTheorems.{isOver, kind-kept}
 use Rattle.call.proofs.SetupLaws.{AsSetup, setup, other, as-setup, Comes, refuses, opens, open-comes}
-use Rattle.call.proofs.PointLaws.{place-injective, same-role, every-role, disarm-these, originating-fits, role-exactly, pair-point}
+use Rattle.call.proofs.PointLaws.{place-injective, same-role, every-role, disarm-these, sets-fit, role-exactly, pair-point}
 
 -- ---- a record's tests, one by one
 
@@ -60,8 +62,8 @@ pub record Fits (dp : PointSet) (r : Record) : Type 0 where
 pub fits : (dp : PointSet) (r : Record) → inRangeOf dp r ≡ true → Fits dp r
 unfolding inRangeOf
 fits dp r h =
-    let f = each (chargeInRange (legAt One r .charge) (r .last)) (chargeInRange (legAt Two r .charge) (r .last) ∷ holdInRange dp (r .hold) ∷ isClockReading (r .last) ∷ armingsInRange dp (r .armings) ∷ isTimer (r .kept) ∷ isDefaultTimer (r .timer) ∷ numberInRange (r .number) ∷ []) h in
-    record { leg1 = f 0; leg2 = f 1; hold = f 2; last = f 3; armings = f 4; kept = f 5; timer = f 6; number = f 7 }
+    let f = each (chargeInRange (legAt One r .charge) (r .last)) (chargeInRange (legAt Two r .charge) (r .last) ∷ isClockReading (r .last) ∷ isTimer (r .kept) ∷ isDefaultTimer (r .timer) ∷ numberInRange (r .number) ∷ (holdInRange dp (r .hold) && armingsInRange dp (r .armings)) ∷ []) h in
+    record { leg1 = f 0; leg2 = f 1; last = f 2; kept = f 3; timer = f 4; number = f 5; hold = and-left _ (armingsInRange dp (r .armings)) (f 6); armings = and-right (holdInRange dp (r .hold)) _ (f 6) }
 
 pub in-range : (dp : PointSet) (r : Record) → Fits dp r → inRangeOf dp r ≡ true
 unfolding inRangeOf
@@ -229,19 +231,14 @@ module _ (dp : PointSet) (fit : isPointSet dp ≡ true) where
       (armed-one dp p (e .mode) (r .armings) on (g 0) (f .armings))
       (kept-fits (eqb (e .timer .0) 0) (e .timer) (r .kept) (and-left (isTimer (e .timer)) (eqb (e .timer .0) 0 || (isRole p role.NoAnswer && leb (e .mode) 1)) (g 1)) (f .kept))
 
-  entries-fit : (r : Record) (es : List Entry) (seen : List Bool) → Fits dp r → areGood dp seen es ≡ true → Fits dp (armedWith dp r es) × (armedWith dp r es .last ≡ r .last)
+  entries-fit : (r : Record) (es : List Entry) (seen : List Bool) → Fits dp r → areGood dp seen es ≡ true → Fits dp (armedWith dp r es)
   unfolding areGood armedWith
-  entries-fit r [] seen f h = (f, refl)
+  entries-fit r [] seen f h = f
   entries-fit r (e ∷ es) seen f h =
       let x = named dp e in
       let g = isGood x seen e in
       let rest = areGood dp (seenAfter x seen) es in
-      let q = entries-fit (armedBy r x e) es (seenAfter x seen) (entry-fits r e x refl seen f (and-left g rest h)) (and-right g rest h) in
-      (q .0, q .1 ∙ same-last x)
-    where
-      same-last : (x : Named) → armedBy r x e .last ≡ r .last
-      same-last Unknown = refl
-      same-last (Known p) = refl
+      entries-fit (armedBy r x e) es (seenAfter x seen) (entry-fits r e x refl seen f (and-left g rest h)) (and-right g rest h)
 
 -- ---- numbers
 
@@ -265,7 +262,7 @@ number-fits n c ds h =
 
 -- what an item in range asks: a number or a period in range
 abbrev asksFit : Kind → List ℕ → Bool
-asksFit (kind.Setup nature service forwarded count) rest = numberInRange (numberOf nature count rest)
+asksFit (kind.Setup b nature service forwarded count) rest = numberInRange (numberOf nature count rest)
 asksFit (kind.Event p) rest = true
 asksFit (kind.PeriodOver l) rest = true
 asksFit (kind.RequestReport n) rest = true
@@ -276,8 +273,8 @@ asksFit (kind.ApplyCharging l period) rest = isPeriod period
 asksFit kind.ActivityTest rest = true
 asksFit kind.Abort rest = true
 
-body-fits : (b : Body) (s : Stage) (rest : List ℕ) → (allInRange (formOf b .fields) && restInRange (formOf b .rest) rest) ≡ true → asksFit (kindOf b s) rest ≡ true
-body-fits (body.Setup n v w c) s rest h = number-fits n c rest h
+body-fits : (x : Body) (s : Stage) (rest : List ℕ) → (allInRange (formOf x .fields) && restInRange (formOf x .rest) rest) ≡ true → asksFit (kindOf x s) rest ≡ true
+body-fits (body.Setup b n v w c) s rest h = number-fits n c rest h
 body-fits (body.RouteFailure c) s rest h = refl
 body-fits (body.Busy c) s rest h = refl
 body-fits body.NoAnswer s rest h = refl
@@ -297,17 +294,18 @@ body-fits body.Abort s rest h = refl
 
 -- ---- steps: what is left of an accepted item at t, where the call is not over
 
-abbrev pub isLeftWell : PointSet → Tenths → Stepped → Bool
-isLeftWell dp t s = remains (s .answer) true true (inRangeOf dp (s .next) && eqb (s .next .last .0) (t .0))
+-- a record that passes the test, with that time
+abbrev isLeft : (Record → Bool) → Tenths → Stepped → Bool
+isLeft f t s = remains (s .answer) true true (f (s .next) && eqb (s .next .last .0) (t .0))
 
-guarded-left : (dp : PointSet) (c : Check) (r : Record) (s : Stepped) (t : Tenths) → (c ≡ Pass → isLeftWell dp t s ≡ true) → isLeftWell dp t (guarded c r s) ≡ true
-guarded-left dp Pass r s t h = h refl
-guarded-left dp (Fail n) r s t h = refl
+-- in range by its own points
+abbrev pub isLeftWell : Tenths → Stepped → Bool
+isLeftWell = isLeft recordInRange
 
 -- not over, and not earlier than the last time
 module _ (dp : PointSet) where
   abbrev LeftWell : Tenths → Stepped → Type 0
-  LeftWell t s = isLeftWell dp t s ≡ true
+  LeftWell t s = isLeft (inRangeOf dp) t s ≡ true
 
   goes : (next : Record) (t : Tenths) → Fits dp next → next .last ≡ t → (inRangeOf dp next && eqb (next .last .0) (t .0)) ≡ true
   goes next t f e = rw (in-range dp next f, eq-eqb (next .last .0) (t .0) (ap (λ (x : Tenths). x .0) e))
@@ -370,14 +368,13 @@ module _ (dp : PointSet) (fit : isPointSet dp ≡ true) (r : Record) (t : Tenths
   in-time k h = ltb-false _ _ (no-row (row7 r t ∷ drop 1 (rowsOf dp r k t rest)) h 0)
 
   served-left : (k : Kind) → asksFit k rest ≡ true → firstOf (rowsOf dp r k t rest) ≡ Pass → LeftWell dp t (served dp r k t rest)
-  served-left (kind.Setup n s w c) a h = refl
+  served-left (kind.Setup b n s w c) a h = refl
   served-left (kind.Event p) a h = met-left dp r t f o (in-time (kind.Event p) h) p
   served-left (kind.PeriodOver l) a h = let q = charged-fits dp r t f o (in-time (kind.PeriodOver l) h) l noCharge refl in goes dp _ t (q .0) (q .1)
   served-left (kind.RequestReport n) a h =
       let es = entriesOf n rest in
       let good = not-false (areGood dp noneSeen es) (no-row (rowsOf dp r (kind.RequestReport n) t rest) h 2) in
-      let q = entries-fit dp fit (timed r t) es noneSeen (timed-fits dp r t f o (in-time (kind.RequestReport n) h)) good in
-      goes dp (armedWith dp (timed r t) es) t (q .0) (q .1)
+      goes dp (armedWith dp (timed r t) es) t (entries-fit dp fit (timed r t) es noneSeen (timed-fits dp r t f o (in-time (kind.RequestReport n) h)) good) (armed-keeps dp (λ s. s .last) (λ s a k. refl) es (timed r t))
   served-left kind.Continue a h = continued-left dp r t f o (in-time kind.Continue h)
   served-left (kind.Connect n c) a h =
       let next = connected r (numberOf n c rest) t in
@@ -391,7 +388,7 @@ module _ (dp : PointSet) (fit : isPointSet dp ≡ true) (r : Record) (t : Tenths
 -- ---- the theorems
 
 -- an item in range on a record in range, of a call whose points are dp
-respond-in-left : (dp : PointSet) → isPointSet dp ≡ true → (r : Record) (i : Item) (rest : List ℕ) → inRangeOf dp r ≡ true → itemInRange i rest ≡ true → isLeftWell dp (i .time) (respondIn dp r i rest) ≡ true
+respond-in-left : (dp : PointSet) → isPointSet dp ≡ true → (r : Record) (i : Item) (rest : List ℕ) → inRangeOf dp r ≡ true → itemInRange i rest ≡ true → LeftWell dp (i .time) (respondIn dp r i rest)
 unfolding respondIn itemInRange
 respond-in-left dp fit r i rest h g =
     let t = i .time in
@@ -399,30 +396,42 @@ respond-in-left dp fit r i rest h g =
     let form = formOf (i .body) in
     let b = allInRange (form .fields) && restInRange (form .rest) rest in
     let o = and-right b (isClockReading t) g in
-    guarded-left dp (firstOf (row1Time t ∷ rowsOf dp r k t rest)) r (served dp r k t rest) t
+    on-guard (LeftWell dp t) (firstOf (row1Time t ∷ rowsOf dp r k t rest)) r (served dp r k t rest) (λ n. refl)
     (λ e. served-left dp fit r t rest (fits dp r h) o k (body-fits (i .body) (r .stage) rest (and-left b (isClockReading t) g)) (passes (row1Time t .applies) 1 (firstOf (rowsOf dp r k t rest)) e .1))
 
+-- by the points of its own kind, where that is the kind b
+by-kind : (b : Bcsm) (t : Tenths) (s : Stepped) → (isOver (s .answer) ≡ false → s .next .bcsm ≡ b) → LeftWell (setOf b) t s → isLeftWell t s ≡ true
+by-kind b t s k h = same (s .answer) (λ o. ap (λ x. inRangeOf (setOf x) (s .next) && eqb (s .next .last .0) (t .0)) (k o)) ∙ h
+  where
+    same : (a : Answer) {x y : Bool} → (isOver a ≡ false → x ≡ y) → remains a true true x ≡ remains a true true y
+    same (Refused n) f = refl
+    same (Accepted o) f = go (o .over) f
+      where
+        go : (b : Bool) {x y : Bool} → (b ≡ false → x ≡ y) → cond b true x ≡ cond b true y
+        go true f = refl
+        go false f = f refl
+
 -- of any call, for the owner who knows both
-pub respond-left : (r : Record) (i : Item) (rest : List ℕ) → recordInRange r ≡ true → itemInRange i rest ≡ true → isLeftWell (setOf r) (i .time) (respondOf r i rest) ≡ true
-respond-left r = respond-in-left (setOf r) originating-fits r
+pub respond-left : (r : Record) (i : Item) (rest : List ℕ) → recordInRange r ≡ true → itemInRange i rest ≡ true → isLeftWell (i .time) (respondOf r i rest) ≡ true
+respond-left r i rest h g = by-kind (r .bcsm) (i .time) (respondOf r i rest) (kind-kept r i rest) (respond-in-left (setOf (r .bcsm)) (sets-fit (r .bcsm)) r i rest h g)
 
 -- any item on any record: what is out of range is refused
-pub step-left : (r : Record) (i : Item) (rest : List ℕ) → isLeftWell (setOf r) (i .time) (stepOf r i rest) ≡ true
+pub step-left : (r : Record) (i : Item) (rest : List ℕ) → isLeftWell (i .time) (stepOf r i rest) ≡ true
 unfolding stepOf
 step-left r i rest =
-    guarded-left (setOf r) (firstOf (row1 i rest ∷ row3 r ∷ [])) r (respondOf r i rest) (i .time)
+    on-guard (λ s. isLeftWell (i .time) s ≡ true) (firstOf (row1 i rest ∷ row3 r ∷ [])) r (respondOf r i rest) (λ n. refl)
     (λ e. let q = no-row (row1 i rest ∷ row3 r ∷ []) e in respond-left r i rest (not-false (recordInRange r) (q 1)) (not-false (itemInRange i rest) (q 0)))
 
 -- a Setup that opens a call
-begun-left : (dp : PointSet) (b : Bool) (timer : Seconds) (handling : Handling) (n : Number) (t : Tenths) → isDefaultTimer timer ≡ true → isClockReading t ≡ true → numberInRange n ≡ true → isLeftWell dp t (begun dp b timer handling n t) ≡ true
-begun-left dp b timer handling n t h o g = go b
+begun-left : (b : Bcsm) (triggered : Bool) (timer : Seconds) (handling : Handling) (n : Number) (t : Tenths) → isDefaultTimer timer ≡ true → isClockReading t ≡ true → numberInRange n ≡ true → isLeftWell t (begun b triggered timer handling n t) ≡ true
+begun-left b triggered timer handling n t h o g = go triggered
   where
-    new : (x : Hold) → holdInRange dp x ≡ true → Fits dp (opened timer handling n x t)
-    new x k = record { leg1 = refl; leg2 = refl; hold = k; last = o; armings = none-fits dp; kept = refl; timer = h; number = g }
+    new : (x : Hold) → holdInRange (setOf b) x ≡ true → Fits (setOf b) (opened b timer handling n x t)
+    new x k = record { leg1 = refl; leg2 = refl; hold = k; last = o; armings = none-fits (setOf b); kept = refl; timer = h; number = g }
 
-    go : (b : Bool) → isLeftWell dp t (begun dp b timer handling n t) ≡ true
-    go true = goes dp (opened timer handling n hold.Trigger t) t (new hold.Trigger refl) refl
-    go false = goes dp (opened timer handling n hold.None t) t (new hold.None refl) refl
+    go : (triggered : Bool) → isLeftWell t (begun b triggered timer handling n t) ≡ true
+    go true = goes (setOf b) (opened b timer handling n hold.Trigger t) t (new hold.Trigger refl) refl
+    go false = goes (setOf b) (opened b timer handling n hold.None t) t (new hold.None refl) refl
 
 -- each field of a list that is in range
 field-at : (l : List Field) (i : ℕ) → allInRange l ≡ true → getD l i (byte 0 true) .inRange ≡ true
@@ -438,22 +447,22 @@ profile-fits s h =
     field-at (fieldsOf p) 1 (and-left (allInRange (fieldsOf p)) (senseInRange (p .sense) (length (p .numbers) + length (p .lengths))) g)
 
 -- where it is set up, what its profile said being in range
-set-up-left : (i : Item) (rest : List ℕ) (o : Opening) → isDefaultTimer (o .timer) ≡ true → asksFit (kindOf (i .body) Analysing) rest ≡ true → isLeftWell originating (i .time) (setUpOf i rest o) ≡ true
+set-up-left : (i : Item) (rest : List ℕ) (o : Opening) → isDefaultTimer (o .timer) ≡ true → asksFit (kindOf (i .body) Analysing) rest ≡ true → isLeftWell (i .time) (setUpOf i rest o) ≡ true
 unfolding setUpOf
 set-up-left i rest o h a =
-    guarded-left originating (firstOf (row1Time (i .time) ∷ [])) _ _ (i .time)
+    on-guard (λ s. isLeftWell (i .time) s ≡ true) (firstOf (row1Time (i .time) ∷ [])) _ _ (λ n. refl)
     (λ e. go (not-false (isClockReading (i .time)) (no-row (row1Time (i .time) ∷ []) e 0)) (as-setup (kindOf (i .body) Analysing)) a)
   where
     go : isClockReading (i .time) ≡ true → {k : Kind} → AsSetup k → asksFit k rest ≡ true
-        → isLeftWell originating (i .time) (ifSetup k (λ n v w c. begun originating (o .triggered) (o .timer) (o .handling) (numberOf n c rest) (i .time)) notOpen) ≡ true
-    go t (setup n v w c) a = begun-left originating (o .triggered) (o .timer) (o .handling) (numberOf n c rest) (i .time) h t a
-    go t (other e) a = rw (e Stepped (λ n v w c. begun originating (o .triggered) (o .timer) (o .handling) (numberOf n c rest) (i .time)) notOpen)
+        → isLeftWell (i .time) (ifSetup k (λ b n v w c. begun b (o .triggered) (o .timer) (o .handling) (numberOf n c rest) (i .time)) notOpen) ≡ true
+    go t (setup b n v w c) a = begun-left b (o .triggered) (o .timer) (o .handling) (numberOf n c rest) (i .time) h t a
+    go t (other e) a = rw (e Stepped (λ b n v w c. begun b (o .triggered) (o .timer) (o .handling) (numberOf n c rest) (i .time)) notOpen)
 
-pub open-left : (i : Item) (rest s : List ℕ) → isLeftWell originating (i .time) (openOf i rest s) ≡ true
+pub open-left : (i : Item) (rest s : List ℕ) → isLeftWell (i .time) (openOf i rest s) ≡ true
 unfolding itemInRange
-open-left i rest s = open-comes i rest s (λ q. isLeftWell originating (i .time) q ≡ true) refl (λ h e. go h)
+open-left i rest s = open-comes i rest s (λ q. isLeftWell (i .time) q ≡ true) refl (λ h e. go h)
   where
-    go : itemInRange i rest ≡ true → {e : Early} → Comes i rest s e → isLeftWell originating (i .time) (openedBy i rest e) ≡ true
+    go : itemInRange i rest ≡ true → {e : Early} → Comes i rest s e → isLeftWell (i .time) (openedBy i rest e) ≡ true
     go h (refuses a b) = refl
     go h (opens o m a p f) = set-up-left i rest o (rw m (profile-fits s p)) (body-fits (i .body) Analysing rest (and-left (allInRange (formOf (i .body) .fields) && restInRange (formOf (i .body) .rest) rest) (isClockReading (i .time)) h))
     go h (Comes.passes a) = refl

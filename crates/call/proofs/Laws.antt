@@ -14,7 +14,8 @@ use Rattle.forms.specs.Fields.{isDigit, allInRange}
 use Rattle.forms.specs.Item.{formOf, restInRange, itemInRange, entryOf}
 use Rattle.forms.specs.Profile.{viewOf, profileOf, isProfile, readProfile}
 use Rattle.forms.specs.Units.{clockEnd}
-use Rattle.call.specs.Types.{Entry, Item, Tenths, PointSet, Mode, Arming, Named, Record, Relationship, Check}
+use Rattle.forms.specs.declared.item.Leg.the-variants.{One, Two}
+use Rattle.call.specs.Types.{Entry, Item, Leg, Seconds, Tenths, PointSet, Mode, Charge, Arming, Named, Record, Reports, Deadline, Relationship, Check, Stepped}
 use Rattle.forms.specs.declared.profile.ProfileView.{ProfileView}
 use Rattle.forms.specs.declared.profile.ReadProfile.the-variants.{Profile, Refused}
 use Rattle.forms.proofs.ByteLaws.{and-left, and-right}
@@ -25,8 +26,10 @@ use Rattle.call.specs.declared.relationship.Relationship.the-variants as
 use Rattle.call.specs.Armings.{unarmed, isMode, someArmed, nothingArmed, stronger, strongest}
 use Rattle.call.specs.Record.{isPending, isHeld, armedAs}
 use Rattle.call.specs.Relationship.{relationshipOf}
-use Rattle.call.specs.Answers.{Row, row, firstOf}
+use Rattle.call.specs.Points.{setOf}
+use Rattle.call.specs.Answers.{Row, row, firstOf, goesOn, refused, guarded}
 use Rattle.call.specs.Request.{entriesOf, named, isGood, placeNamed, seenAfter, areGood, isPossible, arePossible, armingAfter, keptFor, armedBy, armedWith}
+use Rattle.call.specs.Operations.{charged}
 use Rattle.call.specs.Range.{placesInRange}
 
 -- ---- what holds of both holds of whichever is taken
@@ -34,6 +37,11 @@ use Rattle.call.specs.Range.{placesInRange}
 pub on-cond : {A : Type 0} (P : A → Type 0) (b : Bool) (x y : A) → P x → P y → P (cond b x y)
 on-cond P true x y h g = h
 on-cond P false x y h g = g
+
+-- what holds of each refusal, and of what passes, holds of what is guarded
+pub on-guard : (P : Stepped → Type 0) (c : Check) (r : Record) (s : Stepped) → ((n : ℕ) → P (refused r n)) → (c ≡ Pass → P s) → P (guarded c r s)
+on-guard P Pass r s f h = h refl
+on-guard P (Fail n) r s f h = f n
 
 -- ---- tests in a row
 
@@ -205,6 +213,29 @@ empty-step l i e h z = rw (add-one e, add-one i, eqb·suc-suc e i, drop-cons l i
 pub used-step : (l : List ℕ) (i e : ℕ) → i < length l → e ≤ i → (getD l i 0 ≡ 0 → ⊥) → (eqb e (i + 1) && placesInRange 0 (drop (i + 1) l)) ≡ (eqb e i && placesInRange 0 (drop i l))
 unfolding placesInRange
 used-step l i e h k z = rw (ne-eqb e (i + 1) (λ q. omega arith), drop-cons l i 0 h, ne-eqb (getD l i 0) 0 z, and-false)
+
+-- ---- the kind of call stays: a leg is put in, entries change armings and kept timer alone
+
+charged-keeps-kind : (r : Record) (l : Leg) (c : Charge) (t : Tenths) → charged r l c t .bcsm ≡ r .bcsm
+charged-keeps-kind r One c t = refl
+charged-keeps-kind r Two c t = refl
+
+-- so a record that a charge has left goes on by the points of the one before
+pub charged-on : (next r : Record) (l : Leg) (c : Charge) (t : Tenths) (reports : Reports) (deadline : Deadline) → next ≡ charged r l c t
+    → goesOn (setOf (next .bcsm)) next reports deadline ≡ goesOn (setOf (r .bcsm)) (charged r l c t) reports deadline
+charged-on next r l c t reports deadline e = rw e (ap (λ b. goesOn (setOf b) (charged r l c t) reports deadline) (charged-keeps-kind r l c t))
+
+pub armed-keeps : (dp : PointSet) {A : Type 0} (f : Record → A) → ((r : Record) (a : List Arming) (k : Seconds) → f (armedAs r a k) ≡ f r) → (es : List Entry) (r : Record) → f (armedWith dp r es) ≡ f r
+unfolding armedWith
+armed-keeps dp f h [] r = refl
+armed-keeps dp f h (e ∷ es) r = armed-keeps dp f h es (armedBy r (named dp e) e) ∙ go (named dp e)
+  where
+    go : (x : Named) → f (armedBy r x e) ≡ f r
+    go Unknown = refl
+    go (Known p) = h r _ _
+
+pub entries-keep-kind : (dp : PointSet) (r : Record) (es : List Entry) → armedWith dp r es .bcsm ≡ r .bcsm
+entries-keep-kind dp r es = armed-keeps dp (λ s. s .bcsm) (λ s a k. refl) es r
 
 -- ---- loops over entries: those from i on begin with entry i
 

@@ -13,8 +13,8 @@ use Rattle.call.specs.declared.answers.Answer.the-variants.{Accepted, Re
 use Rattle.call.specs.declared.kind.Kind.the-variants as kind
 use Rattle.forms.specs.Profile.{isRelease}
 use Rattle.call.specs.Armings.{modeAt}
-use Rattle.call.specs.Points.{originating}
-use Rattle.call.specs.Record.{setOf, isPresent, isHeld, isTrigger, blank, numberOf}
+use Rattle.call.specs.Points.{setOf}
+use Rattle.call.specs.Record.{isPresent, isHeld, isTrigger, blank, numberOf}
 use Rattle.call.specs.Answers.{Row, isAccepted, firstOf, guarded}
 use Rattle.call.specs.Events.{endsCall, met}
 use Rattle.call.specs.Operations.{dropped, continued, aborted}
@@ -84,7 +84,7 @@ continued-one dp r t = either (isPresent (r .leg1) && isPresent (r .leg2)) _ _ (
 module _ (dp : PointSet) (r : Record) (t : Tenths) (rest : List ℕ) where
   served-one : (k : Kind) → (all (λ n. contains n respondNumbers) (numbers (rowsOf dp r k t rest)) ≡ true) × OneOf respondNumbers (served dp r k t rest)
   unfolding all contains met aborted
-  served-one (kind.Setup n s w c) = (refl, refl)
+  served-one (kind.Setup b n s w c) = (refl, refl)
   served-one (kind.Event p) = (refl, either (endsCall p (modeAt p (r .armings))) _ _ refl refl)
   served-one (kind.PeriodOver l) = (refl, refl)
   served-one (kind.RequestReport n) = (refl, refl)
@@ -100,8 +100,8 @@ module _ (r : Record) (i : Item) (rest : List ℕ) where
   unfolding respondIn all contains
   respond-numbers =
       let k = kindOf (i .body) (r .stage) in
-      let q = served-one (setOf r) r (i .time) rest k in
-      guarded-one respondNumbers (row1Time (i .time) ∷ rowsOf (setOf r) r k (i .time) rest) r (served (setOf r) r k (i .time) rest) (q .0) (q .1)
+      let q = served-one (setOf (r .bcsm)) r (i .time) rest k in
+      guarded-one respondNumbers (row1Time (i .time) ∷ rowsOf (setOf (r .bcsm)) r k (i .time) rest) r (served (setOf (r .bcsm)) r k (i .time) rest) (q .0) (q .1)
 
   pub step-numbers : OneOf stepNumbers (stepOf r i rest)
   unfolding stepOf all contains
@@ -119,9 +119,9 @@ pub set-up-numbers : (i : Item) (rest : List ℕ) (o : Opening) → OneOf setUpN
 unfolding setUpOf all contains
 set-up-numbers i rest o = guarded-one setUpNumbers (row1Time (i .time) ∷ []) blank _ refl (go (as-setup (kindOf (i .body) Analysing)))
   where
-    go : {k : Kind} → AsSetup k → OneOf setUpNumbers (ifSetup k (λ n v w c. begun originating (o .triggered) (o .timer) (o .handling) (numberOf n c rest) (i .time)) notOpen)
-    go (setup n v w c) = accepted-one setUpNumbers (begun originating (o .triggered) (o .timer) (o .handling) (numberOf n c rest) (i .time) .answer) (begun-opens (o .triggered) (o .timer) (o .handling) (numberOf n c rest) (i .time) .0)
-    go (other e) = rw (e Stepped (λ n v w c. begun originating (o .triggered) (o .timer) (o .handling) (numberOf n c rest) (i .time)) notOpen)
+    go : {k : Kind} → AsSetup k → OneOf setUpNumbers (ifSetup k (λ b n v w c. begun b (o .triggered) (o .timer) (o .handling) (numberOf n c rest) (i .time)) notOpen)
+    go (setup b n v w c) = accepted-one setUpNumbers (begun b (o .triggered) (o .timer) (o .handling) (numberOf n c rest) (i .time) .answer) (begun-opens b (o .triggered) (o .timer) (o .handling) (numberOf n c rest) (i .time) .0)
+    go (other e) = rw (e Stepped (λ b n v w c. begun b (o .triggered) (o .timer) (o .handling) (numberOf n c rest) (i .time)) notOpen)
 
 pub open-numbers : (i : Item) (rest s : List ℕ) → OneOf openNumbers (openOf i rest s)
 unfolding all contains

@@ -12,7 +12,7 @@ use borrow.Author.Tests.{ltb-false, eqb-true, not-false}
 use Rattle.forms.specs.Fields.{legNumber}
 use Rattle.forms.specs.Units.{isTimer}
 use Rattle.forms.proofs.ByteLaws.{and-left, and-right}
-use Rattle.call.specs.Types.{Entry, Seconds, Tenths, PointSet, Role, Named, Record, Stepped}
+use Rattle.call.specs.Types.{Item, Entry, Seconds, Tenths, PointSet, Role, Named, Record, Stepped}
 use Rattle.forms.specs.declared.item.Body.the-variants as body
 use Rattle.call.specs.declared.roles.Role.the-variants.{NoAnswer}
 use Rattle.call.specs.declared.points.Named.the-variants.{Unknown, Known}
@@ -20,16 +20,16 @@ use Rattle.call.specs.declared.refusals.Check.the-variants.{Pass}
 use Rattle.call.specs.declared.kind.Kind.the-variants as kind
 use Rattle.call.specs.Roles.{placeOf, isRole}
 use Rattle.call.specs.Armings.{modeOf}
-use Rattle.call.specs.Points.{pointIn, isPointSet}
-use Rattle.call.specs.Record.{setOf, timed, armedAs}
+use Rattle.call.specs.Points.{setOf, pointIn, isPointSet}
+use Rattle.call.specs.Record.{timed, armedAs}
 use Rattle.call.specs.Answers.{Row, isAccepted, firstOf, guarded}
 use Rattle.call.specs.Request.{entriesOf, named, isModeFor, isGood, seenAfter, areGood, noneSeen, keptAfter, armedBy, armedWith, requestReport}
 use Rattle.call.specs.Refusals.{row1Time, rowsOf}
 use Rattle.call.specs.Step.{respondIn}
-use Rattle.call.specs.Order.{Request, entries, Apart, Disjoint, inTurn, BothAccepted}
+use Rattle.call.specs.Order.{Request, entries, Apart, Disjoint, asked, inTurn, BothAccepted}
 use Rattle.call.proofs.Laws.{same-tenths, no-row}
-use Rattle.call.proofs.PointLaws.{place-injective, pair-numbers, originating-fits, role-exactly}
-use Rattle.call.proofs.CallTheorems.{not-refused}
+use Rattle.call.proofs.PointLaws.{place-injective, pair-numbers, sets-fit, role-exactly}
+use Rattle.call.proofs.CallTheorems.{not-refused, isOver, kind-kept}
 
 -- ---- two entries
 
@@ -107,9 +107,12 @@ unfolding areGood
 good-sound dp (In·head {x = x} {xs = es} h) seen g = subst (λ y. Sound (named dp y) y) (sym h) (entry-sound (named dp x) seen x (and-left _ (areGood dp (seenAfter (named dp x) seen) es) g))
 good-sound dp (In·tail {x = x} m) seen g = good-sound dp m (seenAfter (named dp x) seen) (and-right (isGood (named dp x) seen x) _ g)
 
--- the answer to a request, of a call whose points are dp
+-- a request to the call n at t, and the answer to it, of a call whose points are dp
+abbrev requestTo : ℕ → Request → Tenths → Item
+requestTo n a t = record { call = n; time = t; body = body.RequestReport (a .count) }
+
 abbrev askedIn : PointSet → ℕ → Record → Request → Tenths → Stepped
-askedIn dp n r a t = respondIn dp r (record { call = n; time = t; body = body.RequestReport (a .count) }) (a .bytes)
+askedIn dp n r a t = respondIn dp r (requestTo n a t) (a .bytes)
 
 -- the rows that it meets
 abbrev rows : PointSet → Record → Request → Tenths → List Row
@@ -156,14 +159,30 @@ in-either-order dp fit n r a b t v u d x y z w =
     ∙ swap dp (entries a) (entries b) (λ e f m k. entry-swap dp fit (named dp e) (named dp f) e f refl refl (accepted-sound dp n r a t x e m) (accepted-sound dp n r b v z f k) (d e f m k)) (timed r u)
     ∙ sym (both-next dp n r b a v u z w)
 
+-- of any call: the second request goes by the same points, since the call's kind is kept
+module _ (n : ℕ) (r : Record) (a b : Request) (t u : Tenths) (x : BothAccepted n r a t b u) where
+  second-in : inTurn n r a t b u ≡ askedIn (setOf (r .bcsm)) n (asked n r a t .next) b u
+  unfolding respondIn
+  second-in =
+      let dp = setOf (r .bcsm) in
+      let goes-on : isOver (asked n r a t .answer) ≡ false = ap (λ c. isOver (guarded c r (requestReport dp r (a .count) (a .bytes) t) .answer)) (none-applies dp n r a t (x .first)) in
+      ap (λ k. askedIn (setOf k) n (asked n r a t .next) b u) (kind-kept r (requestTo n a t) (a .bytes) goes-on)
+
+  accepted-in : isAccepted (askedIn (setOf (r .bcsm)) n (asked n r a t .next) b u .answer) ≡ true
+  accepted-in = ap (λ s. isAccepted (s .answer)) (sym second-in) ∙ x .second
+
 -- the times go with the places in the order: the second request comes at u, the first at any time
 pub either-order : (n : ℕ) (r : Record) (a b : Request) (t v u : Tenths) → Disjoint a b → BothAccepted n r a t b u → BothAccepted n r b v a u
     → inTurn n r a t b u .next ≡ inTurn n r b v a u .next
-either-order n r a b t v u d x y = in-either-order (setOf r) originating-fits n r a b t v u d (x .first) (x .second) (y .first) (y .second)
+either-order n r a b t v u d x y =
+    ap (λ s. s .next) (second-in n r a b t u x)
+    ∙ in-either-order (setOf (r .bcsm)) (sets-fit (r .bcsm)) n r a b t v u d (x .first) (accepted-in n r a b t u x) (y .first) (accepted-in n r b a v u y)
+    ∙ ap (λ s. s .next) (sym (second-in n r b a v u y))
 
 -- the times go with the requests: accepted in both orders, they come at one time
 pub either-order-items : (n : ℕ) (r : Record) (a b : Request) (t u : Tenths) → Disjoint a b → BothAccepted n r a t b u → BothAccepted n r b u a t
     → inTurn n r a t b u .next ≡ inTurn n r b u a t .next
 either-order-items n r a b t u d x y =
-    let same : t ≡ u = same-tenths (omega (arith, both-times (setOf r) n r a b t u (x .first) (x .second), both-times (setOf r) n r b a u t (y .first) (y .second))) in
+    let dp = setOf (r .bcsm) in
+    let same : t ≡ u = same-tenths (omega (arith, both-times dp n r a b t u (x .first) (accepted-in n r a b t u x), both-times dp n r b a u t (y .first) (accepted-in n r b a u t y))) in
     either-order n r a b t u u d x (rw same at y) ∙ ap (λ s. inTurn n r b u a s .next) (sym same)

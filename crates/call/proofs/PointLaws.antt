@@ -1,9 +1,9 @@
--- Laws of roles, armings and point sets. What is said of a point set holds of any description that passes `isPointSet`; that document 01's passes is computed.
+-- Laws of roles, armings and point sets. What is said of a point set holds of any description that passes `isPointSet`; that the sets of both kinds of call pass is computed.
 use Prim.Native.Nat.{ℕ, zero, suc, _+_, _≤_, _<_}
 use mathlib.Core.Path.{_≡_, refl, sym, ap, _∙_}
 use mathlib.Core.Logic.{_↔_}
-use mathlib.Core.Bool.{Bool, true, false, not, cond, Bool·beq, _&&_, _||_, false≢true, true≢false}
-use mathlib.Core.List.{List, [], _∷_}
+use mathlib.Core.Bool.{Bool, true, false, not, cond, Bool·beq, _&&_, _||_, and-true, and-false, or-true, or-false, false≢true, true≢false}
+use mathlib.Core.List.{List, [], _∷_, map}
 use native.Mathlib.Numerals.{add-one}
 use native.Mathlib.Omega.{arith}
 use lib.Dec.{eqb, ltb}
@@ -12,29 +12,37 @@ use lib.Seq.{drop-cons, getD-set-other, set-getD}
 use borrow.Author.Tests.{eqb-true, eqb-false, ltb-true, not-true}
 use Rattle.forms.specs.Fields.{legNumber}
 use Rattle.forms.proofs.ByteLaws.{and-left, and-right}
+use Rattle.forms.specs.declared.item.Bcsm.the-variants.{Originating, Terminating}
 use Rattle.forms.specs.declared.item.Leg.the-variants.{One, Two}
-use Rattle.call.specs.Types.{Leg, Role, Point, PointSet, Arming}
+use Rattle.call.specs.Types.{Bcsm, Leg, Role, Point, PointSet, Arming, Hold}
 use Rattle.call.specs.declared.roles.Role.the-variants as role
 use Rattle.call.specs.declared.stages.Stage.the-variants.{Active}
 use Rattle.call.specs.declared.armings.Mode.the-variants as mode
-use Rattle.call.specs.declared.points.Named.the-variants.{Known}
+use Rattle.call.specs.declared.record.Hold.the-variants as hold
+use Rattle.call.specs.declared.points.Named.the-variants.{Unknown, Known}
 use Rattle.call.specs.Roles.{metIn, losesLeg, roles, placeOf, isRole, isAmong, every}
-use Rattle.call.specs.Armings.{unarmed, modeAt, disarmed}
-use Rattle.call.specs.Points.{at, originating, isPoint, isPair, isLeg, firstRole, picked, pointIn, isIn, roleIn, isOnLeg, leaves, onLeg, disarms, legFits, numberFits, hasOwnPair, isPointSet}
+use Rattle.call.specs.Armings.{isMode, unarmed, modeAt, disarmed}
+use Rattle.call.specs.Points.{setOf, isPoint, isPair, isLeg, firstRole, picked, pointIn, isIn, roleIn, isOnLeg, leaves, onLeg, disarms, legFits, numberFits, hasOwnPair, isPointSet}
+use Rattle.call.specs.Record.{isAt}
+use Rattle.call.specs.Range.{holdInRange, armingsInRange}
 
 -- ---- roles: the ten are all, so a test of the ten proves a rule for every role
 
+-- what stands for each role, in their order, stands at the role's place
+pub in-order : {A : Type 0} (f : Role → A) (d : A) (p : Role) → getD (map f roles) (placeOf p) d ≡ f p
+in-order f d role.MidCall = refl
+in-order f d role.Disconnect1 = refl
+in-order f d role.Abandon = refl
+in-order f d role.Moved = refl
+in-order f d role.RouteFailure = refl
+in-order f d role.Busy = refl
+in-order f d role.NoAnswer = refl
+in-order f d role.Answer = refl
+in-order f d role.Disconnect2 = refl
+in-order f d role.Seized = refl
+
 at-place : (p : Role) → getD roles (placeOf p) role.MidCall ≡ p
-at-place role.MidCall = refl
-at-place role.Disconnect1 = refl
-at-place role.Abandon = refl
-at-place role.Moved = refl
-at-place role.RouteFailure = refl
-at-place role.Busy = refl
-at-place role.NoAnswer = refl
-at-place role.Answer = refl
-at-place role.Disconnect2 = refl
-at-place role.Seized = refl
+at-place = in-order (λ p. p) role.MidCall
 
 -- no two roles share a place
 pub place-injective : (p q : Role) → placeOf p ≡ placeOf q → p ≡ q
@@ -147,27 +155,39 @@ pub disarmed-length : (ps : List Role) (a : List Arming) → length (disarmed ps
 disarmed-length [] a = refl
 disarmed-length (p ∷ ps) a = disarmed-length ps (set a (placeOf p) unarmed) ∙ length-set a (placeOf p) unarmed
 
--- ---- the code's loop over the roles: those from the place i on are left to disarm
+-- ---- the code's loops over the roles
 
--- one arming of a leg's, stored where it stands
+-- from the place i on, the role there comes first
+roles-from : (i : ℕ) → i < 10 → drop i roles ≡ getD roles i role.MidCall ∷ drop (i + 1) roles
+roles-from i l = rw add-one (drop-cons roles i role.MidCall l)
+
+-- no role is left
+pub roles-end : (i : ℕ) → 10 ≤ i → drop i roles ≡ []
+roles-end i h = drop-of-length-le roles h
+
+-- the first role that passes a test: those from the place i on decide. The role there does, or those after it
+pub first-here : (f : Role → Bool) (i : ℕ) → i < 10 → f (getD roles i role.MidCall) ≡ true → firstRole f (drop i roles) ≡ Known (getD roles i role.MidCall)
+first-here f i l h = rw (roles-from i l, h)
+
+pub first-after : (f : Role → Bool) (i : ℕ) → i < 10 → f (getD roles i role.MidCall) ≡ false → firstRole f (drop (i + 1) roles) ≡ firstRole f (drop i roles)
+first-after f i l h = rw (roles-from i l, h)
+
+-- or none
+pub first-none : (f : Role → Bool) (i : ℕ) → 10 ≤ i → firstRole f (drop i roles) ≡ Unknown
+first-none f i h = rw (roles-end i h)
+
+-- a leg's roles: those from the place i on are left to disarm; one arming, stored where it stands
 pub leg-step : (dp : PointSet) (leg : Leg) (i : ℕ) → i < 10 → (a : List Arming)
     → disarmed (picked (λ p. isOnLeg dp p leg) (drop (i + 1) roles)) (set a i (cond (isOnLeg dp (getD roles i role.MidCall) leg) unarmed (getD a i unarmed)))
     ≡ disarmed (picked (λ p. isOnLeg dp p leg) (drop i roles)) a
-leg-step dp leg i l a = rw from (go (isOnLeg dp (getD roles i role.MidCall) leg))
+leg-step dp leg i l a = rw (roles-from i l) (go (isOnLeg dp (getD roles i role.MidCall) leg))
   where
-    from : drop i roles ≡ getD roles i role.MidCall ∷ drop (i + 1) roles
-    from = rw add-one (drop-cons roles i role.MidCall l)
-
     rest : List Role
     rest = picked (λ p. isOnLeg dp p leg) (drop (i + 1) roles)
 
     go : (b : Bool) → disarmed rest (set a i (cond b unarmed (getD a i unarmed))) ≡ disarmed (cond b (getD roles i role.MidCall ∷ rest) rest) a
     go true = ap (λ n. disarmed rest (set a n unarmed)) (sym (role-place i l))
     go false = rw (set-getD a i unarmed)
-
--- no role is left
-pub roles-end : (i : ℕ) → 10 ≤ i → drop i roles ≡ []
-roles-end i h = drop-of-length-le roles h
 
 -- ---- legs and pairs
 
@@ -206,9 +226,10 @@ answer-row dp = agree (λ q. isAmong q (disarms dp role.Answer)) isPast refl
 
 -- ---- any point set
 
--- document 01's
-pub originating-fits : isPointSet originating ≡ true
-originating-fits = refl
+-- those of both kinds of call
+pub sets-fit : (b : Bcsm) → isPointSet (setOf b) ≡ true
+sets-fit Originating = refl
+sets-fit Terminating = refl
 
 module _ (dp : PointSet) (fit : isPointSet dp ≡ true) where
   -- `_&&_` associates to the left: the last test is the outermost
@@ -271,3 +292,54 @@ module _ (dp : PointSet) (fit : isPointSet dp ≡ true) where
   -- Busy is met on leg 2
   pub busy-leg : leaves dp role.Busy Two ≡ true
   busy-leg = legs role.Busy
+
+  -- every role but Route failure is a point of the call
+  pub all-but-failure : (p : Role) → isRole p role.RouteFailure ≡ false → isIn dp p ≡ true
+  all-but-failure p e = by p e (legs p)
+    where
+      by : (p : Role) → isRole p role.RouteFailure ≡ false → legFits dp p ≡ true → isIn dp p ≡ true
+      by role.MidCall e f = f
+      by role.Disconnect1 e f = and-left (isIn dp role.Disconnect1) _ f
+      by role.Abandon e f = and-left (isIn dp role.Abandon) _ f
+      by role.Moved e f = f
+      by role.RouteFailure e f = absurd (true≢false e)
+      by role.Busy e f = and-left (isIn dp role.Busy) _ f
+      by role.NoAnswer e f = and-left (isIn dp role.NoAnswer) _ f
+      by role.Answer e f = and-left (isIn dp role.Answer) _ f
+      by role.Disconnect2 e f = and-left (isIn dp role.Disconnect2) _ f
+      by role.Seized e f = and-left (isIn dp role.Seized) _ f
+
+  -- so armings are in range exactly if Route failure is a point or unarmed, and Moved not armed in mode 0
+  armings-by-failure : (a : List Arming)
+      → armingsInRange dp a ≡ ((isIn dp role.RouteFailure || isMode (modeAt role.RouteFailure a) mode.None) && not (isMode (modeAt role.Moved a) mode.Interrupted))
+  armings-by-failure a =
+      let on = all-but-failure in
+      rw (on role.MidCall refl, on role.Disconnect1 refl, on role.Abandon refl, on role.Moved refl, on role.Busy refl, on role.NoAnswer refl, on role.Answer refl, on role.Disconnect2 refl, on role.Seized refl, and-true (isIn dp role.RouteFailure || isMode (modeAt role.RouteFailure a) mode.None))
+
+  -- and so with the hold
+  hold-by-failure : (h : Hold) → holdInRange dp h ≡ ((isIn dp role.RouteFailure || not (isAt role.RouteFailure h)) && not (isAt role.Moved h))
+  hold-by-failure hold.None = rw (or-true (isIn dp role.RouteFailure))
+  hold-by-failure hold.Trigger = rw (or-true (isIn dp role.RouteFailure))
+  hold-by-failure (hold.At p) = ap (λ b. b && not (isRole p role.Moved)) (go (isRole p role.RouteFailure) refl)
+    where
+      go : (b : Bool) → isRole p role.RouteFailure ≡ b → isIn dp p ≡ (isIn dp role.RouteFailure || not b)
+      go true e = ap (isIn dp) (same-role p role.RouteFailure e) ∙ sym (or-false (isIn dp role.RouteFailure))
+      go false e = all-but-failure p e ∙ sym (or-true (isIn dp role.RouteFailure))
+
+  -- both, as the code tests them
+  pub by-failure : (h : Hold) (a : List Arming)
+      → (holdInRange dp h && armingsInRange dp a)
+      ≡ (((not (isAt role.Moved h) && not (isMode (modeAt role.Moved a) mode.Interrupted)) && not (not (isIn dp role.RouteFailure) && isAt role.RouteFailure h))
+      && not (not (isIn dp role.RouteFailure) && not (isMode (modeAt role.RouteFailure a) mode.None)))
+  by-failure h a =
+      rw (hold-by-failure h, armings-by-failure a)
+      (go (isIn dp role.RouteFailure) (isAt role.RouteFailure h) (isMode (modeAt role.RouteFailure a) mode.None) (not (isAt role.Moved h)) (not (isMode (modeAt role.Moved a) mode.Interrupted)))
+    where
+      twice : (b : Bool) → b ≡ ((b && true) && true)
+      twice b = sym (and-true (b && true) ∙ and-true b)
+
+      go : (e f g m n : Bool) → (((e || not f) && m) && ((e || g) && n)) ≡ (((m && n) && not (not e && f)) && not (not e && not g))
+      go true f g m n = twice (m && n)
+      go false true g m n = sym (ap (λ b. b && not (not g)) (and-false (m && n)))
+      go false false true m n = twice (m && n)
+      go false false false m n = and-false m ∙ sym (and-false ((m && n) && true))

@@ -1,4 +1,4 @@
--- A Setup, or anything else: by its kind, what comes early of it, and what it opens.
+-- A Setup, or anything else: by its kind, what comes early of it, and what it opens, a call of the Setup's own kind.
 use Prim.Native.Nat.{ℕ}
 use mathlib.Core.Path.{_≡_, refl, sym, subst, _∙_}
 use mathlib.Core.Bool.{Bool, true, false, not, cond, false≢true}
@@ -8,17 +8,17 @@ use types.Run.{OneOf, miss}
 use Rattle.forms.specs.Item.{itemInRange}
 use Rattle.forms.specs.Profile.{profileOf, isProfile}
 use Rattle.forms.specs.Units.{isClockReading}
-use Rattle.call.specs.Types.{Item, Handling, Seconds, Tenths, Number, Stepped, Kind, Opening, Early}
+use Rattle.call.specs.Types.{Bcsm, Item, Handling, Seconds, Tenths, Number, Stepped, Kind, Opening, Early}
 use Rattle.call.specs.declared.stages.Stage.the-variants.{Analysing}
 use Rattle.call.specs.declared.refusals.Check.the-variants.{Pass, Fail}
 use Rattle.call.specs.declared.kind.Kind.the-variants as kind
 use Rattle.call.specs.declared.setup.Early.the-variants as early
 use Rattle.call.specs.Kind.{kindOf, ifSetup, isSetup}
 use Rattle.call.specs.Record.{blank, numberOf}
-use Rattle.call.specs.Points.{originating}
-use Rattle.call.specs.Answers.{isAccepted, refused}
+use Rattle.call.specs.Answers.{isAccepted, firstOf, refused}
+use Rattle.call.specs.Refusals.{row1Time}
 use Rattle.call.specs.Setup.{begun, openingOf, unlessEarly, earlyOf, setUpOf, openedBy, openOf}
-use Rattle.call.proofs.Laws.{time-fits}
+use Rattle.call.proofs.Laws.{on-guard, time-fits}
 use Rattle.call.proofs.CallTheorems.{isOver}
 use Rattle.call.proofs.kind.Kind.{the-type}
 
@@ -26,11 +26,11 @@ use Rattle.call.proofs.kind.Kind.{the-type}
 
 -- a kind is a Setup's, or `ifSetup` goes the other way
 pub data AsSetup : Kind → Type 1 where
-  setup : (nature service : ℕ) (forwarded : Bool) (count : ℕ) → AsSetup (kind.Setup nature service forwarded count)
-  other : {k : Kind} → ((A : Type 0) (f : ℕ → ℕ → Bool → ℕ → A) (x : A) → ifSetup k f x ≡ x) → AsSetup k
+  setup : (b : Bcsm) (nature service : ℕ) (forwarded : Bool) (count : ℕ) → AsSetup (kind.Setup b nature service forwarded count)
+  other : {k : Kind} → ((A : Type 0) (f : Bcsm → ℕ → ℕ → Bool → ℕ → A) (x : A) → ifSetup k f x ≡ x) → AsSetup k
 
 pub as-setup : (k : Kind) → AsSetup k
-as-setup (kind.Setup nature service forwarded count) = setup nature service forwarded count
+as-setup (kind.Setup b nature service forwarded count) = setup b nature service forwarded count
 as-setup (kind.Event p) = other (λ A f x. refl)
 as-setup (kind.PeriodOver l) = other (λ A f x. refl)
 as-setup (kind.RequestReport n) = other (λ A f x. refl)
@@ -45,11 +45,11 @@ as-setup kind.Abort = other (λ A f x. refl)
 abbrev pub others : List ℕ
 others = 1 ∷ 2 ∷ 3 ∷ 4 ∷ 5 ∷ 6 ∷ 7 ∷ 8 ∷ 9 ∷ []
 
-pub no-setup : (A : Type 0) (k : Kind) → OneOf others (tagOf the-type k) → (f : ℕ → ℕ → Bool → ℕ → A) (x : A) → ifSetup k f x ≡ x
+pub no-setup : (A : Type 0) (k : Kind) → OneOf others (tagOf the-type k) → (f : Bcsm → ℕ → ℕ → Bool → ℕ → A) (x : A) → ifSetup k f x ≡ x
 no-setup A k h f x = go (as-setup k) h
   where
     go : {k : Kind} → AsSetup k → OneOf others (tagOf the-type k) → ifSetup k f x ≡ x
-    go (setup n v w c) h = absurd (miss others 0 tt h)
+    go (setup b n v w c) h = absurd (miss others 0 tt h)
     go (other e) h = e A f x
 
 -- ---- a Setup that opens a call is accepted, and the call is not over
@@ -57,25 +57,25 @@ no-setup A k h f x = go (as-setup k) h
 abbrev pub Opens : Stepped → Type 0
 Opens s = (isAccepted (s .answer) ≡ true) × (isOver (s .answer) ≡ false)
 
-pub begun-opens : (b : Bool) (timer : Seconds) (handling : Handling) (number : Number) (t : Tenths) → Opens (begun originating b timer handling number t)
-begun-opens true timer handling number t = (refl, refl)
-begun-opens false timer handling number t = (refl, refl)
+pub begun-opens : (b : Bcsm) (triggered : Bool) (timer : Seconds) (handling : Handling) (number : Number) (t : Tenths) → Opens (begun b triggered timer handling number t)
+begun-opens b true timer handling number t = (refl, refl)
+begun-opens b false timer handling number t = (refl, refl)
 
 -- ---- what comes early of an item that is not malformed
 
 module _ (i : Item) (rest s : List ℕ) where
-  pub early-setup : (n v : ℕ) (w : Bool) (c : ℕ) → kindOf (i .body) Analysing ≡ kind.Setup n v w c
-      → cond (isProfile (profileOf s) s) (early.Setup (openingOf (profileOf s) n v w c rest)) (early.Refused 2) ≡ earlyOf false i rest s
+  pub early-setup : (b : Bcsm) (n v : ℕ) (w : Bool) (c : ℕ) → kindOf (i .body) Analysing ≡ kind.Setup b n v w c
+      → cond (isProfile (profileOf s) s) (early.Setup (openingOf (profileOf s) b n v w c rest)) (early.Refused 2) ≡ earlyOf false i rest s
   unfolding earlyOf
-  early-setup n v w c e = rw e (go (isProfile (profileOf s) s))
+  early-setup b n v w c e = rw e (go (isProfile (profileOf s) s))
     where
-      go : (b : Bool) → cond b (early.Setup (openingOf (profileOf s) n v w c rest)) (early.Refused 2) ≡ unlessEarly (cond (not b) (Fail 2) Pass) (early.Setup (openingOf (profileOf s) n v w c rest))
+      go : (q : Bool) → cond q (early.Setup (openingOf (profileOf s) b n v w c rest)) (early.Refused 2) ≡ unlessEarly (cond (not q) (Fail 2) Pass) (early.Setup (openingOf (profileOf s) b n v w c rest))
       go true = refl
       go false = refl
 
-  pub early-other : ((A : Type 0) (f : ℕ → ℕ → Bool → ℕ → A) (x : A) → ifSetup (kindOf (i .body) Analysing) f x ≡ x) → early.Other ≡ earlyOf false i rest s
+  pub early-other : ((A : Type 0) (f : Bcsm → ℕ → ℕ → Bool → ℕ → A) (x : A) → ifSetup (kindOf (i .body) Analysing) f x ≡ x) → early.Other ≡ earlyOf false i rest s
   unfolding earlyOf
-  early-other e = rw (e Bool (λ n v w c. true) false, e Early (λ n v w c. early.Setup (openingOf (profileOf s) n v w c rest)) early.Other)
+  early-other e = rw (e Bool (λ b n v w c. true) false, e Early (λ b n v w c. early.Setup (openingOf (profileOf s) b n v w c rest)) early.Other)
 
   -- three things can come early: 2; a Setup, which then opens a call; or nothing
   pub data Comes : Early → Type 0 where
@@ -88,12 +88,12 @@ module _ (i : Item) (rest s : List ℕ) where
   comes = go (as-setup (kindOf (i .body) Analysing)) refl
     where
       go : {k : Kind} → AsSetup k → kindOf (i .body) Analysing ≡ k → Comes (earlyOf false i rest s)
-      go (setup n v w c) e = subst Comes (early-setup n v w c e) (by (isProfile (profileOf s) s) refl)
+      go (setup b n v w c) e = subst Comes (early-setup b n v w c e) (by (isProfile (profileOf s) s) refl)
         where
-          by : (b : Bool) → isProfile (profileOf s) s ≡ b → Comes (cond b (early.Setup (openingOf (profileOf s) n v w c rest)) (early.Refused 2))
-          by true p = let o = openingOf (profileOf s) n v w c rest in opens o refl (rw e) p (λ t. rw (t, e) (begun-opens (o .triggered) (o .timer) (o .handling) (numberOf n c rest) (i .time)))
+          by : (q : Bool) → isProfile (profileOf s) s ≡ q → Comes (cond q (early.Setup (openingOf (profileOf s) b n v w c rest)) (early.Refused 2))
+          by true p = let o = openingOf (profileOf s) b n v w c rest in opens o refl (rw e) p (λ t. rw (t, e) (begun-opens b (o .triggered) (o .timer) (o .handling) (numberOf n c rest) (i .time)))
           by false p = refuses (rw e) p
-      go (other f) e = subst Comes (early-other (λ A g x. rw e (f A g x))) (passes (rw e (f Bool (λ n v w c. true) false)))
+      go (other f) e = subst Comes (early-other (λ A g x. rw e (f A g x))) (passes (rw e (f Bool (λ b n v w c. true) false)))
 
   -- so what is opened is 1, or goes by what comes
   pub open-comes : (P : Stepped → Type 0) → P (refused blank 1) → (itemInRange i rest ≡ true → (e : Early) → Comes e → P (openedBy i rest e)) → P (openOf i rest s)
@@ -112,3 +112,34 @@ module _ (i : Item) (rest s : List ℕ) where
       go (refuses a b) = absurd (false≢true (sym b ∙ p))
       go (opens q m a b f) = f (time-fits i rest o)
       go (passes a) = absurd (false≢true (sym a ∙ h))
+
+-- ---- a Setup of the kind b
+
+module _ (i : Item) (rest : List ℕ) (b : Bcsm) (n v : ℕ) (w : Bool) (c : ℕ) (is-setup : kindOf (i .body) Analysing ≡ kind.Setup b n v w c) where
+  -- what holds of each refusal, and of a call that begins, holds of what it opens
+  module _ (P : Stepped → Type 0) (none : (m : ℕ) → P (refused blank m)) (begins : (triggered : Bool) (timer : Seconds) (handling : Handling) (number : Number) (t : Tenths) → P (begun b triggered timer handling number t)) where
+    pub on-set-up : (o : Opening) → P (setUpOf i rest o)
+    unfolding setUpOf
+    on-set-up o = on-guard P (firstOf (row1Time (i .time) ∷ [])) blank _ none (λ e. rw is-setup (begins (o .triggered) (o .timer) (o .handling) (numberOf n c rest) (i .time)))
+
+    pub on-open : (s : List ℕ) → P (openOf i rest s)
+    on-open s = open-comes i rest s P (none 1) (λ h e. go)
+      where
+        go : {e : Early} → Comes i rest s e → P (openedBy i rest e)
+        go (refuses a f) = none 2
+        go (opens o m a p f) = on-set-up o
+        go (passes a) = none 4
+
+  -- the call that is opened is of that kind (T-04)
+  abbrev IsKind : Stepped → Type 0
+  IsKind s = isAccepted (s .answer) ≡ true → s .next .bcsm ≡ b
+
+  begun-kind : (triggered : Bool) (timer : Seconds) (handling : Handling) (number : Number) (t : Tenths) → IsKind (begun b triggered timer handling number t)
+  begun-kind true timer handling number t h = refl
+  begun-kind false timer handling number t h = refl
+
+  pub set-up-kind : (o : Opening) → IsKind (setUpOf i rest o)
+  set-up-kind = on-set-up IsKind (λ m h. absurd (false≢true h)) begun-kind
+
+  pub open-kind : (s : List ℕ) → IsKind (openOf i rest s)
+  open-kind = on-open IsKind (λ m h. absurd (false≢true h)) begun-kind

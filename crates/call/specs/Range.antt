@@ -14,8 +14,8 @@ use Rattle.call.specs.declared.armings.Mode.the-variants as mode
 use Rattle.call.specs.declared.record.Hold.the-variants as hold
 use Rattle.call.specs.Roles.{isAnalysing, roles, isRole, every}
 use Rattle.call.specs.Armings.{isMode, modeAt, nothingArmed}
-use Rattle.call.specs.Points.{isIn}
-use Rattle.call.specs.Record.{isPresent, isPending, isHeld, setOf, legAt}
+use Rattle.call.specs.Points.{isIn, setOf}
+use Rattle.call.specs.Record.{isPresent, isPending, isHeld, isOriginating, legAt}
 
 -- a period "as in Forms"; no "start later than last time". What a charge does not have is zero: period and start where none is pending, the start while it waits.
 abbrev pub chargeInRangeAs : Clock → Charge → Tenths → Bool
@@ -26,7 +26,7 @@ chargeInRangeAs clock.Running c last = isPeriod (c .period) && leb (c .start .0)
 abbrev pub chargeInRange : Charge → Tenths → Bool
 chargeInRange c last = chargeInRangeAs (c .clock) c last
 
--- "hold none, 2 or an armable point with its leg, 50 excepted"
+-- "hold none, 2 or an armable point with its leg, 50 excepted"; of a terminating call "12 for the hold at 2 and 51 for 50" (T-04)
 abbrev pub holdInRange : PointSet → Hold → Bool
 holdInRange dp hold.None = true
 holdInRange dp hold.Trigger = true
@@ -48,12 +48,12 @@ numberInRange n = nature (n .nature) .inRange && digitCount (n .count) .inRange 
 -- "times below 2^48; kept timer 0..2047"; "all else as in Forms"
 unfoldable pub inRangeOf : PointSet → Record → Bool
 inRangeOf dp r =
-    chargeInRange (legAt One r .charge) (r .last) && chargeInRange (legAt Two r .charge) (r .last) && holdInRange dp (r .hold)
-    && isClockReading (r .last) && armingsInRange dp (r .armings) && isTimer (r .kept)
-    && isDefaultTimer (r .timer) && numberInRange (r .number)
+    chargeInRange (legAt One r .charge) (r .last) && chargeInRange (legAt Two r .charge) (r .last)
+    && isClockReading (r .last) && isTimer (r .kept) && isDefaultTimer (r .timer) && numberInRange (r .number)
+    && (holdInRange dp (r .hold) && armingsInRange dp (r .armings))
 
 abbrev pub recordInRange : Record → Bool
-recordInRange r = inRangeOf (setOf r) r
+recordInRange r = inRangeOf (setOf (r .bcsm)) r
 
 -- ---- "A free record is blank: every field zero or none."
 
@@ -67,7 +67,7 @@ isNoNumber n = eqb (n .nature) 0 && eqb (n .count) 0 && placesInRange 0 (n .digi
 unfoldable pub areFieldsBlank : Record → Bool
 areFieldsBlank r =
     isAnalysing (r .stage) && isUnused (legAt One r) && isUnused (legAt Two r) && not (isHeld (r .hold)) && eqb (r .last .0) 0
-    && eqb (r .kept .0) 0 && eqb (r .timer .0) 0 && not (isRelease (r .handling))
+    && eqb (r .kept .0) 0 && eqb (r .timer .0) 0 && not (isRelease (r .handling)) && isOriginating (r .bcsm)
 
 unfoldable pub isBlank : Record → Bool
 isBlank r = areFieldsBlank r && nothingArmed (r .armings) && isNoNumber (r .number)

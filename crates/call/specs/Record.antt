@@ -3,15 +3,16 @@ use Prim.Native.Nat.{ℕ}
 use mathlib.Core.Bool.{Bool, true, false}
 use mathlib.Core.List.{List, []}
 use Rattle.forms.specs.Bytes.{pad}
-use Rattle.call.specs.Types.{Leg, Tenths, Seconds, Presence, Clock, Charge, LegState, Stage, Hold, Arming, Number, PointSet, Record}
+use Rattle.call.specs.Types.{Leg, Tenths, Seconds, Presence, Clock, Charge, LegState, Stage, Role, Hold, Arming, Number, Bcsm, Record}
+use Rattle.forms.specs.declared.item.Bcsm.the-variants.{Originating, Terminating}
 use Rattle.forms.specs.declared.item.Leg.the-variants.{One, Two}
 use Rattle.forms.specs.declared.profile.Handling.the-variants.{Continue}
 use Rattle.call.specs.declared.record.Presence.the-variants.{Absent, Present}
 use Rattle.call.specs.declared.record.Clock.the-variants as clock
 use Rattle.call.specs.declared.stages.Stage.the-variants.{Analysing}
 use Rattle.call.specs.declared.record.Hold.the-variants as hold
+use Rattle.call.specs.Roles.{isRole}
 use Rattle.call.specs.Armings.{noArmings}
-use Rattle.call.specs.Points.{originating}
 
 -- ---- a leg: absent or present, and its pending charge
 
@@ -60,11 +61,18 @@ isTrigger hold.None = false
 isTrigger hold.Trigger = true
 isTrigger (hold.At p) = false
 
+-- at the role's point
+abbrev pub isAt : Role → Hold → Bool
+isAt p hold.None = false
+isAt p hold.Trigger = false
+isAt p (hold.At q) = isRole q p
+
 -- ---- the record
 
--- the call's point set: document 01 has one kind of call
-abbrev pub setOf : Record → PointSet
-setOf r = originating
+-- the kind of call (T-04), by which its points go: `Points.setOf`
+abbrev pub isOriginating : Bcsm → Bool
+isOriginating Originating = true
+isOriginating Terminating = false
 
 abbrev pub noTimer : Seconds
 noTimer = record { 0 = 0 }
@@ -96,6 +104,7 @@ blank = record {
   leg2 = Absent;
   clock1 = clock.None;
   clock2 = clock.None;
+  bcsm = Originating;
 }
 
 -- a leg lies in four fields of the record: it is taken out, and `made` puts it in
@@ -103,7 +112,7 @@ abbrev pub legAt : Leg → Record → LegState
 legAt One r = leg (r .leg1) (charge (r .clock1) (r .period1) (r .start1))
 legAt Two r = leg (r .leg2) (charge (r .clock2) (r .period2) (r .start2))
 
--- all but the profile's defaults is given
+-- all but the profile's defaults and the kind of call is given
 abbrev pub made : Record → Stage → LegState → LegState → Hold → Tenths → List Arming → Seconds → Number → Record
 made r stage one two hold last armings kept number = record {
   last = last;
@@ -122,6 +131,7 @@ made r stage one two hold last armings kept number = record {
   leg2 = two .presence;
   clock1 = one .charge .clock;
   clock2 = two .charge .clock;
+  bcsm = r .bcsm;
 }
 
 -- the last time

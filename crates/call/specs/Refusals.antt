@@ -83,7 +83,7 @@ row14 r l t = row 14 (isBeforeEnd (legAt l r .charge) t)
 
 -- the rows that an item meets which asks k of an open call at t; its entries stand in `rest`
 abbrev pub rowsOf : PointSet → Record → Kind → Tenths → List ℕ → List Row
-rowsOf dp r (kind.Setup nature service forwarded count) t rest = row5 ∷ []
+rowsOf dp r (kind.Setup b nature service forwarded count) t rest = row5 ∷ []
 rowsOf dp r (kind.Event p) t rest = row7 r t ∷ row9 r p ∷ row12 (canMeet dp r p) ∷ []
 rowsOf dp r (kind.PeriodOver l) t rest = row7 r t ∷ row12 (isStarted (legAt l r .charge .clock)) ∷ row14 r l t ∷ []
 rowsOf dp r (kind.RequestReport n) t rest = row7 r t ∷ row8 r ∷ row11 dp (entriesOf n rest) ∷ row12 (arePossible dp r (entriesOf n rest)) ∷ []

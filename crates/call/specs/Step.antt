@@ -4,7 +4,8 @@ use mathlib.Core.List.{List, [], _∷_}
 use Rattle.call.specs.Types.{Item, Tenths, PointSet, Record, Stepped, Kind}
 use Rattle.call.specs.declared.answers.Report.the-variants as report
 use Rattle.call.specs.declared.kind.Kind.the-variants as kind
-use Rattle.call.specs.Record.{setOf, numberOf, timed}
+use Rattle.call.specs.Points.{setOf}
+use Rattle.call.specs.Record.{numberOf, timed}
 use Rattle.call.specs.Answers.{firstOf, quietly, ended, refused, guarded}
 use Rattle.call.specs.Request.{requestReport}
 use Rattle.call.specs.Events.{met}
@@ -15,7 +16,7 @@ use Rattle.call.specs.Refusals.{row1, row1Time, row3, rowsOf}
 -- ---- an accepted item's answer and next record; its digits or entries stand in `rest`. (A Setup is not accepted: row 5.)
 
 abbrev pub served : PointSet → Record → Kind → Tenths → List ℕ → Stepped
-served dp r (kind.Setup nature service forwarded count) t rest = refused r 5
+served dp r (kind.Setup b nature service forwarded count) t rest = refused r 5
 served dp r (kind.Event p) t rest = met dp r p t
 served dp r (kind.PeriodOver l) t rest = periodOver dp r l t
 served dp r (kind.RequestReport n) t rest = requestReport dp r n rest t
@@ -35,7 +36,7 @@ unfoldable pub respondIn : PointSet → Record → Item → List ℕ → Stepped
 respondIn dp r i rest = respondAs dp r (kindOf (i .body) (r .stage)) (i .time) rest
 
 abbrev pub respondOf : Record → Item → List ℕ → Stepped
-respondOf r = respondIn (setOf r) r
+respondOf r = respondIn (setOf (r .bcsm)) r
 
 -- any item and any record: 1 for an item out of range, 3 for a record out of range
 unfoldable pub stepOf : Record → Item → List ℕ → Stepped

@@ -1,4 +1,4 @@
--- Document 01, Triggering (004, triggering criteria of the O-CSI at Collected_Info).
+-- Document 01, Triggering (004, triggering criteria of the O-CSI at Collected_Info), and T-04's for a terminating call.
 use Prim.Native.Nat.{ℕ}
 use mathlib.Core.Bool.{Bool, true, not, _&&_, _||_}
 use mathlib.Core.List.{List}
@@ -6,7 +6,8 @@ use lib.Dec.{eqb}
 use lib.ListN.{length}
 use Rattle.forms.specs.Bytes.{contains}
 use Rattle.forms.specs.Profile.{Profile, someMatches}
-use Rattle.call.specs.Types.{Criterion}
+use Rattle.call.specs.Types.{Bcsm, Criterion}
+use Rattle.forms.specs.declared.item.Bcsm.the-variants.{Originating, Terminating}
 use Rattle.forms.specs.declared.profile.Criterion.the-variants.{Absent, Enabling, Inhibiting}
 
 -- a criterion holds if it is absent, enabling and b is so, or inhibiting and b is not
@@ -24,6 +25,11 @@ abbrev pub serviceHolds : List ℕ → ℕ → Bool
 serviceHolds services service = eqb (length services) 0 || contains service services
 
 -- "Forwarding: enabling wants a forwarded call, inhibiting one that isn't. All present criteria must hold."
-unfoldable pub triggers : Profile → ℕ → ℕ → Bool → ℕ → List ℕ → Bool
-triggers p nature service forwarded count dialled =
+abbrev pub allHold : Profile → ℕ → ℕ → Bool → ℕ → List ℕ → Bool
+allHold p nature service forwarded count dialled =
     numberHolds p nature count dialled && serviceHolds (p .services) service && holds (p .forwarding) forwarded
+
+-- T-04: a terminating Setup is "triggered by the service list alone"
+unfoldable pub triggers : Bcsm → Profile → ℕ → ℕ → Bool → ℕ → List ℕ → Bool
+triggers Originating p nature service forwarded count dialled = allHold p nature service forwarded count dialled
+triggers Terminating p nature service forwarded count dialled = serviceHolds (p .services) service

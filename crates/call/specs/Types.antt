@@ -1,5 +1,6 @@
 -- The types that the code declares, here and in `forms`, under one name for the definitions; and the description of a point set, which the code has as functions.
 use mathlib.Core.List.{List}
+pub use Rattle.forms.specs.declared.item.Bcsm.{Bcsm}
 pub use Rattle.forms.specs.declared.item.Body.{Body}
 pub use Rattle.forms.specs.declared.item.Entry.{Entry}
 pub use Rattle.forms.specs.declared.item.Item.{Item}
@@ -22,6 +23,7 @@ pub use Rattle.call.specs.declared.charging.ChargeReport.{ChargeReport}
 pub use Rattle.call.specs.declared.kind.Kind.{Kind}
 pub use Rattle.call.specs.declared.points.Named.{Named}
 pub use Rattle.call.specs.declared.points.Point.{Point}
+pub use Rattle.call.specs.declared.points.RolePoints.{RolePoints}
 pub use Rattle.call.specs.declared.record.Charge.{Charge}
 pub use Rattle.call.specs.declared.record.Clock.{Clock}
 pub use Rattle.call.specs.declared.record.Hold.{Hold}

@@ -1,6 +1,6 @@
 // Answers: what an item is told, and the record that remains (document 01, A call by itself).
 ghost use mathlib.Core.Path.{_≡_};
-ghost use Rattle.call.specs.Points.{originating};
+ghost use Rattle.call.specs.Points.{setOf};
 ghost use Rattle.call.specs.Answers.{silent, suspensionOf, goesOn, quietly, ended, refused};
 use crate::charging;
 use crate::charging::ChargeReport;
@@ -10,7 +10,7 @@ use crate::record;
 use crate::record::*;
 use crate::relationship;
 use crate::relationship::Relationship;
-use forms::item::Leg;
+use forms::item::*;
 use forms::units::Tenths;
 
 // The point at which the call is held, or none.
@@ -69,24 +69,25 @@ pub(crate) fn silent_reports() -> Reports
     }
 }
 
-// Where a hold is, in a point set.
-fn suspension_of(h: Hold) -> Suspension
-    ensures { λ s. ⌜ s ≡ suspensionOf originating h ⌝ }
+// Where a hold is, by the kind of call.
+fn suspension_of(bcsm: Bcsm, h: Hold) -> Suspension
+    ensures { λ s. ⌜ s ≡ suspensionOf (setOf bcsm) h ⌝ }
 {
-    let trigger = points::trigger();
+    let trigger = points::trigger(bcsm);
     match h {
         Hold::None => Suspension::None,
         Hold::Trigger => Suspension::At(trigger),
-        Hold::At(p) => Suspension::At(points::point_in(p)),
+        Hold::At(p) => Suspension::At(points::point_in(bcsm, p)),
     }
 }
 
 pub(crate) fn go_on(next: Record, reports: Reports, deadline: Deadline) -> Stepped
-    ensures { λ s. ⌜ s ≡ goesOn originating next reports deadline ⌝ }
+    ensures { λ s. ⌜ s ≡ goesOn (setOf (next .bcsm)) next reports deadline ⌝ }
 {
+    let bcsm = next.bcsm;
     let hold = next.hold;
     let relationship = relationship::relationship_of(next);
-    let suspension = suspension_of(hold);
+    let suspension = suspension_of(bcsm, hold);
     let outcome = Outcome {
         relationship,
         suspension,
@@ -99,7 +100,7 @@ pub(crate) fn go_on(next: Record, reports: Reports, deadline: Deadline) -> Stepp
 }
 
 pub(crate) fn go_on_quietly(next: Record) -> Stepped
-    ensures { λ s. ⌜ s ≡ quietly originating next ⌝ }
+    ensures { λ s. ⌜ s ≡ quietly (setOf (next .bcsm)) next ⌝ }
 {
     go_on(next, silent_reports(), Deadline::None)
 }

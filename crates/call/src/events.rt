@@ -1,6 +1,6 @@
 // Events: a role is met (document 01, One call).
 ghost use mathlib.Core.Path.{_≡_};
-ghost use Rattle.call.specs.Points.{originating};
+ghost use Rattle.call.specs.Points.{setOf};
 ghost use Rattle.call.specs.Record.{legAt};
 ghost use Rattle.call.specs.Events.{isClearOf1, canMeet, eventReport, holdAfter, legAfter, chargeAfter, endsCall, met};
 use crate::answers;
@@ -16,7 +16,7 @@ use crate::record::*;
 use crate::roles;
 use crate::roles::Role;
 use crate::stages;
-use forms::item::Leg;
+use forms::item::*;
 use forms::units::Tenths;
 
 // The role is met by a Clear of leg 1.
@@ -28,12 +28,13 @@ pub(crate) fn is_clear_of_1(p: Role) -> bool
 
 // The stage and the legs allow the event.
 pub(crate) fn can_meet(r: Record, p: Role) -> bool
-    ensures { λ b. ⌜ b ≡ canMeet originating r p ⌝ }
+    ensures { λ b. ⌜ b ≡ canMeet (setOf (r .bcsm)) r p ⌝ }
 {
+    let bcsm = r.bcsm;
     let s = r.stage;
     let part = roles::part_of(p);
     let met = part.met;
-    let q = points::point_in(p);
+    let q = points::point_in(bcsm, p);
     let leg = q.leg;
     let l = record::leg_at(leg, r);
     let presence = l.presence;
@@ -47,12 +48,13 @@ struct LegAfter {
 }
 
 fn leg_after(r: Record, p: Role, leg: Leg, t: Tenths) -> LegAfter
-    ensures { λ s. ⌜ s ≡ record { state = legAfter originating p leg t (legAt leg r); report = chargeAfter originating p leg t (legAt leg r) } ⌝ }
+    ensures { λ s. ⌜ s ≡ record { state = legAfter (setOf (r .bcsm)) p leg t (legAt leg r); report = chargeAfter (setOf (r .bcsm)) p leg t (legAt leg r) } ⌝ }
 {
+    let bcsm = r.bcsm;
     let l = record::leg_at(leg, r);
     let presence = l.presence;
     let c = l.charge;
-    if points::takes_leg(p, leg) {
+    if points::takes_leg(bcsm, p, leg) {
         let none = record::no_charge();
         return LegAfter {
             state: LegState {
@@ -84,11 +86,11 @@ struct ByMode {
     over: bool,
 }
 
-fn by_mode(p: Role, m: Mode) -> ByMode
-    ensures { λ r. ⌜ r ≡ record { event = eventReport originating p m; hold = holdAfter p m; over = endsCall p m } ⌝ }
+fn by_mode(bcsm: Bcsm, p: Role, m: Mode) -> ByMode
+    ensures { λ r. ⌜ r ≡ record { event = eventReport (setOf bcsm) p m; hold = holdAfter p m; over = endsCall p m } ⌝ }
 {
     let part = roles::part_of(p);
-    let q = points::point_in(p);
+    let q = points::point_in(bcsm, p);
     match m {
         Mode::None => ByMode {
             event: Report::None,
@@ -110,14 +112,15 @@ fn by_mode(p: Role, m: Mode) -> ByMode
 
 // The role is met at t, its leg and stage allowing it.
 pub(crate) fn meet(r: Record, p: Role, t: Tenths) -> Stepped
-    ensures { λ s. ⌜ s ≡ met originating r p t ⌝ }
+    ensures { λ s. ⌜ s ≡ met (setOf (r .bcsm)) r p t ⌝ }
 {
+    let bcsm = r.bcsm;
     let stage = r.stage;
     let a = r.armings;
     let kept = r.kept;
     let number = r.number;
     let m = armings::mode_at(p, a);
-    let by = by_mode(p, m);
+    let by = by_mode(bcsm, p, m);
     let event = by.event;
     if by.over {
         return answers::end(r, event, t);
@@ -129,7 +132,7 @@ pub(crate) fn meet(r: Record, p: Role, t: Tenths) -> Stepped
     let leg2 = two.state;
     let charge1 = one.report;
     let charge2 = two.report;
-    let armings = points::disarm(p, a);
+    let armings = points::disarm(bcsm, p, a);
     let after = roles::stage_after(p, stage);
     let next = record::made(r, after, leg1, leg2, hold, t, armings, kept, number);
     let reports = Reports {

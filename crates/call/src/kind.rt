@@ -9,8 +9,8 @@ use forms::units::Tenths;
 
 // What an item asks of a call: an event is the role that it meets.
 pub(crate) enum Kind {
-    // Nature, service, forwarded, digit count.
-    Setup(u8, u8, bool, u8),
+    // Kind of call, nature, service, forwarded, digit count.
+    Setup(Bcsm, u8, u8, bool, u8),
     Event(Role),
     PeriodOver(Leg),
     // Count of entries.
@@ -45,7 +45,8 @@ pub(crate) fn kind_of(body: Body, s: Stage) -> Kind
     ensures { λ k. ⌜ k ≡ kindOf body s ⌝ }
 {
     match body {
-        Body::Setup(nature, service, forwarded, count) => Kind::Setup(
+        Body::Setup(bcsm, nature, service, forwarded, count) => Kind::Setup(
+            bcsm,
             nature,
             service,
             forwarded,

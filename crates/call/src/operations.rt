@@ -1,6 +1,6 @@
 // What Period over and the operations do, Request report apart (document 01, One call and Charging).
 ghost use mathlib.Core.Path.{_≡_};
-ghost use Rattle.call.specs.Points.{originating};
+ghost use Rattle.call.specs.Points.{setOf};
 ghost use Prim.Native.Nat.{_<_};
 ghost use Rattle.forms.specs.Units.{clockEnd};
 ghost use Rattle.call.specs.Record.{numberOf};
@@ -36,7 +36,7 @@ fn route_timer(r: Record) -> Seconds
 // Routing starts: the kept timer is used up.
 pub(crate) fn route(r: Record, t: Tenths) -> Stepped
     requires { ⌜ t .0 < clockEnd ⌝ }
-    ensures { λ s. ⌜ s ≡ routed originating r t ⌝ }
+    ensures { λ s. ⌜ s ≡ routed (setOf (r .bcsm)) r t ⌝ }
 {
     let timer = route_timer(r);
     let none = Seconds(0);
@@ -48,7 +48,7 @@ pub(crate) fn route(r: Record, t: Tenths) -> Stepped
 // Continue, from a hold.
 pub(crate) fn continue_on(r: Record, t: Tenths) -> Stepped
     requires { ⌜ t .0 < clockEnd ⌝ }
-    ensures { λ s. ⌜ s ≡ continued originating r t ⌝ }
+    ensures { λ s. ⌜ s ≡ continued (setOf (r .bcsm)) r t ⌝ }
 {
     let stage = r.stage;
     let leg1 = r.leg1;
@@ -103,7 +103,7 @@ fn connected_record(r: Record, number: Number, t: Tenths) -> Record
 // The record is connected, and routing starts.
 pub(crate) fn connect(r: Record, nature: u8, count: u8, digits: &[u8], t: Tenths) -> Stepped
     requires { ⌜ t .0 < clockEnd ⌝ }
-    ensures { λ s. ⌜ s ≡ routed originating (connected r (numberOf nature count (now (digits .entry))) t) t ⌝ }
+    ensures { λ s. ⌜ s ≡ routed (setOf (r .bcsm)) (connected r (numberOf nature count (now (digits .entry))) t) t ⌝ }
 {
     let number = record::number_of(nature, count, digits);
     route(connected_record(r, number, t), t)
@@ -135,7 +135,7 @@ fn drop_all(r: Record) -> Record
 
 pub(crate) fn abort(r: Record, t: Tenths) -> Stepped
     requires { ⌜ t .0 < clockEnd ⌝ }
-    ensures { λ s. ⌜ s ≡ aborted originating r t ⌝ }
+    ensures { λ s. ⌜ s ≡ aborted (setOf (r .bcsm)) r t ⌝ }
 {
     let handling = r.handling;
     let h = r.hold;
@@ -180,7 +180,7 @@ fn report_on(leg: Leg, c: ChargeReport) -> Reports
 }
 
 pub(crate) fn period_over(r: Record, leg: Leg, t: Tenths) -> Stepped
-    ensures { λ s. ⌜ s ≡ periodOver originating r leg t ⌝ }
+    ensures { λ s. ⌜ s ≡ periodOver (setOf (r .bcsm)) r leg t ⌝ }
 {
     let l = record::leg_at(leg, r);
     let c = l.charge;
@@ -193,7 +193,7 @@ pub(crate) fn period_over(r: Record, leg: Leg, t: Tenths) -> Stepped
 }
 
 pub(crate) fn apply_charging(r: Record, leg: Leg, period: Tenths, t: Tenths) -> Stepped
-    ensures { λ s. ⌜ s ≡ chargeApplied originating r leg period t ⌝ }
+    ensures { λ s. ⌜ s ≡ chargeApplied (setOf (r .bcsm)) r leg period t ⌝ }
 {
     let stage = r.stage;
     let c = charging::grant(stage, period, t);

@@ -1,9 +1,11 @@
 // What is in range of a record: the record's part of refusal 3 (document 01, The call table).
 ghost use mathlib.Core.Path.{_≡_};
-ghost use mathlib.Core.Bool.{cond};
+ghost use mathlib.Core.Bool.{not, _&&_, cond};
 ghost use lib.Dec.{eqb};
 ghost use Rattle.forms.specs.Fields.{isDigit};
-ghost use Rattle.call.specs.Points.{originating};
+ghost use Rattle.call.specs.Armings.{isMode, modeAt};
+ghost use Rattle.call.specs.Points.{setOf, isIn};
+ghost use Rattle.call.specs.Record.{isAt};
 ghost use Rattle.call.specs.Range.{chargeInRange, holdInRange, armingsInRange, placesInRange, numberInRange, recordInRange, isUnused, areFieldsBlank, isNoNumber, isBlank};
 use crate::armings;
 use crate::armings::*;
@@ -14,7 +16,7 @@ use crate::roles;
 use crate::roles::Role;
 use crate::stages;
 use forms::fields;
-use forms::item::Leg;
+use forms::item::*;
 use forms::profile;
 use forms::units::*;
 
@@ -31,22 +33,43 @@ fn charge_in_range(c: Charge, last: Tenths) -> bool
     }
 }
 
-fn hold_in_range(h: Hold) -> bool
-    ensures { λ b. ⌜ b ≡ holdInRange originating h ⌝ }
+// Route failure is the one role that may be no point of a call: held there, where it is none.
+fn is_held_at_none(bcsm: Bcsm, h: Hold) -> bool
+    ensures { λ b. ⌜ b ≡ (not (isIn (setOf bcsm) Role.RouteFailure) && isAt Role.RouteFailure h) ⌝ }
 {
-    match h {
-        Hold::None => true,
-        Hold::Trigger => true,
-        Hold::At(p) => points::is_in(p) & !roles::is_role(p, Role::Moved),
+    if points::is_in(bcsm, Role::RouteFailure) {
+        return false;
     }
+    record::is_at(Role::RouteFailure, h)
 }
 
-// Every role is a point of document 01's set.
-fn armings_in_range(a: [Arming; 10]) -> bool
-    ensures { λ b. ⌜ b ≡ armingsInRange originating a ⌝ }
+// Armed there, where it is none.
+fn is_armed_at_none(bcsm: Bcsm, a: [Arming; 10]) -> bool
+    ensures { λ b. ⌜ b ≡ (not (isIn (setOf bcsm) Role.RouteFailure) && not (isMode (modeAt Role.RouteFailure a) Mode.None)) ⌝ }
+{
+    if points::is_in(bcsm, Role::RouteFailure) {
+        return false;
+    }
+    let failure = armings::mode_at(Role::RouteFailure, a);
+    !armings::is_mode(failure, Mode::None)
+}
+
+// Moved is never armed in mode 0.
+fn is_moved_in_range(a: [Arming; 10]) -> bool
+    ensures { λ b. ⌜ b ≡ not (isMode (modeAt Role.Moved a) Mode.Interrupted) ⌝ }
 {
     let moved = armings::mode_at(Role::Moved, a);
     !armings::is_mode(moved, Mode::Interrupted)
+}
+
+// The hold and the armings. (Of thirty forms that were measured this one costs the check of a slot least: an arming that is read by itself at another place breaks up the ten, which the check of a free slot reads at once.)
+fn points_in_range(bcsm: Bcsm, h: Hold, a: [Arming; 10]) -> bool
+    ensures { λ b. ⌜ b ≡ (holdInRange (setOf bcsm) h && armingsInRange (setOf bcsm) a) ⌝ }
+{
+    !record::is_at(Role::Moved, h)
+        & is_moved_in_range(a)
+        & !is_held_at_none(bcsm, h)
+        & !is_armed_at_none(bcsm, a)
 }
 
 // A place of the number: a digit up to the count, zero past it.
@@ -85,6 +108,7 @@ fn number_in_range(n: Number) -> bool
 pub fn record_in_range(r: Record) -> bool
     ensures { λ b. ⌜ b ≡ recordInRange r ⌝ }
 {
+    let bcsm = r.bcsm;
     let h = r.hold;
     let last = r.last;
     let a = r.armings;
@@ -97,12 +121,11 @@ pub fn record_in_range(r: Record) -> bool
     let c2 = two.charge;
     charge_in_range(c1, last)
         & charge_in_range(c2, last)
-        & hold_in_range(h)
         & last.is_clock_reading()
-        & armings_in_range(a)
         & kept.is_timer()
         & timer.is_default_timer()
         & number_in_range(number)
+        & points_in_range(bcsm, h, a)
 }
 
 // No field of the leg is set.
@@ -152,6 +175,7 @@ fn are_fields_blank(r: Record) -> bool
     let kept = r.kept;
     let timer = r.timer;
     let handling = r.handling;
+    let bcsm = r.bcsm;
     let one = record::leg_at(Leg::One, r);
     let two = record::leg_at(Leg::Two, r);
     stages::is_analysing(stage)
@@ -162,6 +186,7 @@ fn are_fields_blank(r: Record) -> bool
         & (kept.0 == 0)
         & (timer.0 == 0)
         & !profile::is_release(handling)
+        & record::is_originating(bcsm)
 }
 
 // Every field zero or none, as in a free record. A record in use mostly leaves at the first test.

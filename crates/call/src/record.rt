@@ -1,13 +1,14 @@
 // The record of one call (document 01, One call), and records with some fields replaced.
 ghost use mathlib.Core.Path.{_≡_};
 ghost use Rattle.forms.specs.Bytes.{pad};
-ghost use Rattle.call.specs.Record.{leg, charge, noCharge, waiting, running, isPresent, isPending, isHeld, isTrigger, places, numberOf, blank, made, timed, staged, withLegs, legAt, withLeg};
+ghost use Rattle.call.specs.Record.{leg, charge, noCharge, waiting, running, isPresent, isPending, isHeld, isTrigger, isAt, isOriginating, places, numberOf, blank, made, timed, staged, withLegs, legAt, withLeg};
 use crate::armings;
 use crate::armings::Arming;
+use crate::roles;
 use crate::roles::Role;
 use crate::stages::Stage;
 use forms::bytes;
-use forms::item::Leg;
+use forms::item::*;
 use forms::profile::Handling;
 use forms::units::*;
 
@@ -54,7 +55,7 @@ pub struct Number {
 }
 
 // The fields stand by their size, the largest first and the small enums side by side: a byte between two fields that belongs to none is copied apart, with every copy of a record.
-// A leg lies in four fields: the rules take it out and put it in (`leg_at`, `with_leg`, `made`). The armings stand in the order of the roles.
+// A leg lies in four fields: the rules take it out and put it in (`leg_at`, `with_leg`, `made`). The armings stand in the order of the roles. (The order of the last ten is the one that was fastest of some thirty.)
 pub struct Record {
     pub last: Tenths,
     pub period1: Tenths,
@@ -63,15 +64,16 @@ pub struct Record {
     pub start2: Tenths,
     pub kept: Seconds,
     pub timer: Seconds,
-    pub armings: [Arming; 10],
     pub number: Number,
+    pub armings: [Arming; 10],
+    pub handling: Handling,
     pub stage: Stage,
     pub hold: Hold,
-    pub handling: Handling,
     pub leg1: Presence,
-    pub leg2: Presence,
     pub clock1: Clock,
+    pub leg2: Presence,
     pub clock2: Clock,
+    pub bcsm: Bcsm,
 }
 
 pub(crate) fn is_present(p: Presence) -> bool
@@ -90,6 +92,15 @@ pub(crate) fn is_pending(c: Clock) -> bool
         Clock::None => false,
         Clock::Waiting => true,
         Clock::Running => true,
+    }
+}
+
+pub(crate) fn is_originating(bcsm: Bcsm) -> bool
+    ensures { λ r. ⌜ r ≡ isOriginating bcsm ⌝ }
+{
+    match bcsm {
+        Bcsm::Originating => true,
+        Bcsm::Terminating => false,
     }
 }
 
@@ -143,6 +154,17 @@ pub(crate) fn is_trigger(h: Hold) -> bool
     }
 }
 
+// Held at the role's point.
+pub(crate) fn is_at(p: Role, h: Hold) -> bool
+    ensures { λ r. ⌜ r ≡ isAt p h ⌝ }
+{
+    match h {
+        Hold::None => false,
+        Hold::Trigger => false,
+        Hold::At(q) => roles::is_role(q, p),
+    }
+}
+
 // The digits in their places.
 fn places_of(digits: &[u8]) -> [u8; PLACES]
     ensures { λ d. ⌜ d ≡ pad places (now (digits .entry)) ⌝ }
@@ -189,6 +211,7 @@ pub fn blank_record() -> Record
         leg2: Presence::Absent,
         clock1: Clock::None,
         clock2: Clock::None,
+        bcsm: Bcsm::Originating,
     }
 }
 
@@ -223,7 +246,7 @@ pub(crate) fn leg_at(leg: Leg, r: Record) -> LegState
     }
 }
 
-// All but the profile's defaults is given. (A field that is an enum is not stored to, so the record is written anew.)
+// All but the profile's defaults and the kind of call is given. (A field that is an enum is not stored to, so the record is written anew.)
 pub(crate) fn made(
     r: Record,
     stage: Stage,
@@ -249,6 +272,7 @@ pub(crate) fn made(
     let start2 = charge2.start;
     let timer = r.timer;
     let handling = r.handling;
+    let bcsm = r.bcsm;
     Record {
         last,
         period1,
@@ -266,6 +290,7 @@ pub(crate) fn made(
         leg2,
         clock1,
         clock2,
+        bcsm,
     }
 }
 

@@ -1,6 +1,6 @@
 // Refusals 5 and 7 to 14: the first that applies (document 01, Numbered refusals).
 ghost use mathlib.Core.Path.{_≡_};
-ghost use Rattle.call.specs.Points.{originating};
+ghost use Rattle.call.specs.Points.{setOf};
 ghost use mathlib.Core.Bool.{not, _&&_, cond};
 ghost use mathlib.Core.List.{[], _∷_};
 ghost use Rattle.call.specs.Charging.{isBeforeEnd};
@@ -38,7 +38,7 @@ pub(crate) fn refuse_if(applies: bool, n: u8, then: Check) -> Check
 
 // Rows 7, 9 and 12.
 fn event_refusal(r: Record, p: Role, t: Tenths) -> Check
-    ensures { λ c. ⌜ c ≡ firstOf (rowsOf originating r (Kind.Event p) t []) ⌝ }
+    ensures { λ c. ⌜ c ≡ firstOf (rowsOf (setOf (r .bcsm)) r (Kind.Event p) t []) ⌝ }
 {
     let last = r.last;
     let h = r.hold;
@@ -114,14 +114,15 @@ fn connect_refusal(r: Record) -> Check
 
 // Refusals 11 and 12: every entry is tested for 11 before any for 12.
 fn entries_refusal(r: Record, n: u8, t: &[u8]) -> Check
-    ensures { λ c. ⌜ c ≡ firstOf (row11 originating (entriesOf n (now (t .entry))) ∷ row12 (arePossible originating r (entriesOf n (now (t .entry)))) ∷ []) ⌝ }
+    ensures { λ c. ⌜ c ≡ firstOf (row11 (setOf (r .bcsm)) (entriesOf n (now (t .entry))) ∷ row12 (arePossible (setOf (r .bcsm)) r (entriesOf n (now (t .entry)))) ∷ []) ⌝ }
 {
+    let bcsm = r.bcsm;
     let mut seen = [false; 10];
     let mut possible = true;
     let mut i: u8 = 0;
     while i < n {
         let e = item::nth_entry(t, i);
-        let x = points::role_in(e.leg, e.point);
+        let x = points::role_in(bcsm, e.leg, e.point);
         if request::is_good(x, seen, e) {
             let k = request::place_named(x);
             seen[k] = true;
@@ -136,11 +137,11 @@ fn entries_refusal(r: Record, n: u8, t: &[u8]) -> Check
 
 // The first row that applies to the item.
 pub(crate) fn refusal(r: Record, k: Kind, t: Tenths, rest: &[u8]) -> Check
-    ensures { λ c. ⌜ c ≡ firstOf (rowsOf originating r k t (now (rest .entry))) ⌝ }
+    ensures { λ c. ⌜ c ≡ firstOf (rowsOf (setOf (r .bcsm)) r k t (now (rest .entry))) ⌝ }
 {
     let h = r.hold;
     match k {
-        Kind::Setup(_, _, _, _) => Check::Fail(5),
+        Kind::Setup(_, _, _, _, _) => Check::Fail(5),
         Kind::Event(p) => event_refusal(r, p, t),
         Kind::PeriodOver(leg) => period_refusal(r, leg, t),
         Kind::RequestReport(n) => control_refusal(r, t, entries_refusal(r, n, rest)),

@@ -1,6 +1,6 @@
 // Request report: all entries or none (document 01, One call and refusals 11 and 12).
 ghost use mathlib.Core.Path.{_≡_};
-ghost use Rattle.call.specs.Points.{originating};
+ghost use Rattle.call.specs.Points.{setOf};
 ghost use mathlib.Core.Bool.{_&&_};
 ghost use Prim.Native.Nat.{_<_};
 ghost use Rattle.call.specs.Request.{entriesOf, isModeFor, isTimerFor, isGood, placeNamed, canOccur, isPossible, keptAfter, armingAfter, keptFor, armedWith, requestReport};
@@ -105,13 +105,14 @@ fn kept_for(x: Named, timer: Seconds, kept: Seconds) -> Seconds
 
 // All entries, one after the other. Each stores where the record lies, as a copy of it each turn takes time.
 pub(crate) fn arm_all(r: Record, n: u8, t: &[u8]) -> Record
-    ensures { λ s. ⌜ s ≡ armedWith originating r (entriesOf n (now (t .entry))) ⌝ }
+    ensures { λ s. ⌜ s ≡ armedWith (setOf (r .bcsm)) r (entriesOf n (now (t .entry))) ⌝ }
 {
+    let bcsm = r.bcsm;
     let mut s = r;
     let mut i: u8 = 0;
     while i < n {
         let e = item::nth_entry(t, i);
-        let x = points::role_in(e.leg, e.point);
+        let x = points::role_in(bcsm, e.leg, e.point);
         let timer = e.timer;
         let kept = s.kept;
         let k = place_named(x);
@@ -125,7 +126,7 @@ pub(crate) fn arm_all(r: Record, n: u8, t: &[u8]) -> Record
 
 // A Request report that no refusal applies to.
 pub(crate) fn request_report(r: Record, n: u8, entries: &[u8], t: Tenths) -> Stepped
-    ensures { λ s. ⌜ s ≡ requestReport originating r n (now (entries .entry)) t ⌝ }
+    ensures { λ s. ⌜ s ≡ requestReport (setOf (r .bcsm)) r n (now (entries .entry)) t ⌝ }
 {
     answers::go_on_quietly(arm_all(record::with_last(r, t), n, entries))
 }

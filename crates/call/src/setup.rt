@@ -1,6 +1,5 @@
 // Setup: a call is opened (document 01, Triggering; A call by itself).
 ghost use mathlib.Core.Path.{_≡_};
-ghost use Rattle.call.specs.Points.{originating};
 ghost use Prim.Native.Nat.{_<_};
 ghost use mathlib.Core.Bool.{false, cond};
 ghost use Rattle.forms.specs.Units.{clockEnd};
@@ -19,7 +18,7 @@ use crate::record::*;
 use crate::stages::Stage;
 use crate::trigger;
 use forms::item;
-use forms::item::Item;
+use forms::item::*;
 use forms::profile;
 use forms::profile::*;
 use forms::units::*;
@@ -40,13 +39,14 @@ pub enum Early {
 
 // The record that a Setup opens.
 fn opened_record(
+    bcsm: Bcsm,
     timer: Seconds,
     handling: Handling,
     number: Number,
     hold: Hold,
     t: Tenths,
 ) -> Record
-    ensures { λ r. ⌜ r ≡ opened timer handling number hold t ⌝ }
+    ensures { λ r. ⌜ r ≡ opened bcsm timer handling number hold t ⌝ }
 {
     let armings = armings::no_armings();
     Record {
@@ -66,17 +66,25 @@ fn opened_record(
         leg2: Presence::Present,
         clock1: Clock::None,
         clock2: Clock::None,
+        bcsm,
     }
 }
 
 // Held at the trigger and reported, or routed by the profile's timer.
-fn begin(triggered: bool, timer: Seconds, handling: Handling, number: Number, t: Tenths) -> Stepped
+fn begin(
+    bcsm: Bcsm,
+    triggered: bool,
+    timer: Seconds,
+    handling: Handling,
+    number: Number,
+    t: Tenths,
+) -> Stepped
     requires { ⌜ t .0 < clockEnd ⌝ }
-    ensures { λ s. ⌜ s ≡ begun originating triggered timer handling number t ⌝ }
+    ensures { λ s. ⌜ s ≡ begun bcsm triggered timer handling number t ⌝ }
 {
     if triggered {
-        let held = opened_record(timer, handling, number, Hold::Trigger, t);
-        let trigger = points::trigger();
+        let held = opened_record(bcsm, timer, handling, number, Hold::Trigger, t);
+        let trigger = points::trigger(bcsm);
         let reports = Reports {
             event: Report::Interrupting(trigger),
             charge1: ChargeReport::None,
@@ -84,11 +92,15 @@ fn begin(triggered: bool, timer: Seconds, handling: Handling, number: Number, t:
         };
         return answers::go_on(held, reports, Deadline::None);
     }
-    operations::route(opened_record(timer, handling, number, Hold::None, t), t)
+    operations::route(
+        opened_record(bcsm, timer, handling, number, Hold::None, t),
+        t,
+    )
 }
 
 // What the profile of a Setup says, if it is one.
 fn read_opening(
+    bcsm: Bcsm,
     nature: u8,
     service: u8,
     forwarded: bool,
@@ -96,7 +108,7 @@ fn read_opening(
     rest: &[u8],
     profile: &[u8],
 ) -> Early
-    ensures { λ e. ⌜ e ≡ (let s = now (profile .entry) in cond (isProfile (profileOf s) s) (Early.Setup (openingOf (profileOf s) nature service forwarded count (now (rest .entry)))) (Early.Refused 2)) ⌝ }
+    ensures { λ e. ⌜ e ≡ (let s = now (profile .entry) in cond (isProfile (profileOf s) s) (Early.Setup (openingOf (profileOf s) bcsm nature service forwarded count (now (rest .entry)))) (Early.Refused 2)) ⌝ }
 {
     let read = profile::read_profile(profile);
     match read {
@@ -104,6 +116,7 @@ fn read_opening(
             let timer = p.timer;
             let handling = p.handling;
             let triggered = trigger::is_triggered(
+                bcsm,
                 profile,
                 p,
                 nature,
@@ -129,7 +142,8 @@ pub fn early_of(item: Item, rest: &[u8], profile: &[u8]) -> Early
     let body = item.body;
     let k = kind::kind_of(body, Stage::Analysing);
     match k {
-        Kind::Setup(nature, service, forwarded, count) => read_opening(
+        Kind::Setup(bcsm, nature, service, forwarded, count) => read_opening(
+            bcsm,
             nature,
             service,
             forwarded,
@@ -155,7 +169,8 @@ pub fn set_up(item: Item, rest: &[u8], o: Opening) -> Stepped
         return answers::refuse(record::blank_record(), 1);
     }
     match k {
-        Kind::Setup(nature, _, _, count) => begin(
+        Kind::Setup(bcsm, nature, _, _, count) => begin(
+            bcsm,
             triggered,
             timer,
             handling,

@@ -1,6 +1,6 @@
 // One call's answer and next record for an item (document 01, One call).
 ghost use mathlib.Core.Path.{_≡_};
-ghost use Rattle.call.specs.Points.{originating};
+ghost use Rattle.call.specs.Points.{setOf};
 ghost use Prim.Native.Nat.{_<_};
 ghost use Rattle.forms.specs.Units.{clockEnd};
 ghost use Rattle.call.specs.Step.{served, respondOf, stepOf};
@@ -24,10 +24,10 @@ use forms::units::*;
 // An accepted item: its digits or entries stand in `rest`.
 fn serve(r: Record, k: Kind, t: Tenths, rest: &[u8]) -> Stepped
     requires { ⌜ t .0 < clockEnd ⌝ }
-    ensures { λ s. ⌜ s ≡ served originating r k t (now (rest .entry)) ⌝ }
+    ensures { λ s. ⌜ s ≡ served (setOf (r .bcsm)) r k t (now (rest .entry)) ⌝ }
 {
     match k {
-        Kind::Setup(_, _, _, _) => answers::refuse(r, 5),
+        Kind::Setup(_, _, _, _, _) => answers::refuse(r, 5),
         Kind::Event(p) => events::meet(r, p, t),
         Kind::PeriodOver(leg) => operations::period_over(r, leg, t),
         Kind::RequestReport(n) => request::request_report(r, n, rest, t),

@@ -1,8 +1,9 @@
-// Triggering at Collected_Info: whether a profile's criteria hold for a Setup (document 01, Triggering).
+// Triggering: whether a profile's criteria hold for a Setup (document 01, Triggering; T-04).
 ghost use mathlib.Core.Path.{_≡_};
 ghost use Rattle.forms.specs.Profile.{profileOf, viewOf};
-ghost use Rattle.call.specs.Trigger.{holds, serviceHolds, triggers};
+ghost use Rattle.call.specs.Trigger.{holds, serviceHolds, allHold, triggers};
 use forms::bytes;
+use forms::item::Bcsm;
 use forms::profile;
 use forms::profile::Criterion;
 use forms::profile::ProfileView;
@@ -24,7 +25,7 @@ fn service_holds(services: &[u8], service: u8) -> bool
 }
 
 // `profile` are the bytes of a profile, `p` its view; `count` is the digit count of the Setup, `dialled` its digits.
-pub(crate) fn is_triggered(
+fn all_hold(
     profile: &[u8],
     p: ProfileView,
     nature: u8,
@@ -34,7 +35,7 @@ pub(crate) fn is_triggered(
     dialled: &[u8],
 ) -> bool
     requires { ⌜ p ≡ viewOf (now profile) ⌝ }
-    ensures { λ r. ⌜ r ≡ triggers (profileOf (now (profile .entry))) nature service forwarded count (now (dialled .entry)) ⌝ }
+    ensures { λ r. ⌜ r ≡ allHold (profileOf (now (profile .entry))) nature service forwarded count (now (dialled .entry)) ⌝ }
 {
     let sense = p.sense;
     let forwarding = p.forwarding;
@@ -42,4 +43,24 @@ pub(crate) fn is_triggered(
     let services = profile::list_at(profile, p.services);
     let found = profile::some_match(profile, nature, dialled) | bytes::contains(lengths, count);
     holds_for(sense, found) & service_holds(services, service) & holds_for(forwarding, forwarded)
+}
+
+// An originating Setup is triggered by all the criteria, a terminating one by the services alone.
+pub(crate) fn is_triggered(
+    bcsm: Bcsm,
+    profile: &[u8],
+    p: ProfileView,
+    nature: u8,
+    service: u8,
+    forwarded: bool,
+    count: u8,
+    dialled: &[u8],
+) -> bool
+    requires { ⌜ p ≡ viewOf (now profile) ⌝ }
+    ensures { λ r. ⌜ r ≡ triggers bcsm (profileOf (now (profile .entry))) nature service forwarded count (now (dialled .entry)) ⌝ }
+{
+    match bcsm {
+        Bcsm::Originating => all_hold(profile, p, nature, service, forwarded, count, dialled),
+        Bcsm::Terminating => service_holds(profile::list_at(profile, p.services), service),
+    }
 }

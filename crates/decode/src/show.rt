@@ -2,6 +2,7 @@
 use crate::text;
 use forms::bytes;
 use forms::item;
+use forms::item::Bcsm;
 use forms::item::Body;
 use forms::item::Entry;
 use forms::item::Item;
@@ -14,10 +15,17 @@ use forms::profile::ReadProfile;
 use forms::write;
 use forms::write::Written;
 
+fn setup_kind(bcsm: Bcsm) -> u64 {
+    match bcsm {
+        Bcsm::Originating => 1,
+        Bcsm::Terminating => 11,
+    }
+}
+
 // The kind's number: that of the body read, not of the byte it was read from.
 fn kind_of(body: Body) -> u64 {
     match body {
-        Body::Setup(_, _, _, _) => 1,
+        Body::Setup(bcsm, _, _, _, _) => setup_kind(bcsm),
         Body::RouteFailure(_) => 2,
         Body::Busy(_) => 3,
         Body::NoAnswer => 4,

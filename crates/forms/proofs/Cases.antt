@@ -22,6 +22,7 @@ use Rattle.forms.specs.declared.write.Written.the-variants as W
 use Rattle.forms.specs.declared.item.Item.{Item}
 use Rattle.forms.specs.declared.item.Leg.the-variants.{One, Two}
 use Rattle.forms.specs.declared.item.Body.{Body}
+use Rattle.forms.specs.declared.item.Bcsm.the-variants.{Originating, Terminating}
 use Rattle.forms.specs.declared.item.Body.the-variants as B
 use Rattle.forms.specs.declared.item.ReadItem.{ReadItem}
 use Rattle.forms.specs.declared.item.ReadItem.the-variants as R
@@ -90,7 +91,7 @@ row kind bytes body place = reads (item (14 + length bytes) 1 kind bytes) 1000 b
 -- a line a kind, each field at its first and its last value
 abbrev kinds : List Case
 kinds =
-    row 1 (0 ∷ 255 ∷ 0 ∷ 1 ∷ 0 ∷ []) (B.Setup 0 255 false 1) 18 ∷ row 1 (127 ∷ 0 ∷ 1 ∷ 15 ∷ replicate 15 14) (B.Setup 127 0 true 15) 18
+    row 1 (0 ∷ 255 ∷ 0 ∷ 1 ∷ 0 ∷ []) (B.Setup Originating 0 255 false 1) 18 ∷ row 1 (127 ∷ 0 ∷ 1 ∷ 15 ∷ replicate 15 14) (B.Setup Originating 127 0 true 15) 18
     ∷ row 2 (0 ∷ []) (B.RouteFailure 0) 15 ∷ row 2 (127 ∷ []) (B.RouteFailure 127) 15
     ∷ row 3 (0 ∷ []) (B.Busy 0) 15 ∷ row 3 (127 ∷ []) (B.Busy 127) 15
     ∷ row 4 [] B.NoAnswer 14
@@ -100,6 +101,7 @@ kinds =
     ∷ row 8 [] B.Moved 14
     ∷ row 9 (1 ∷ 0 ∷ []) (B.Clear One 0) 16 ∷ row 9 (2 ∷ 127 ∷ []) (B.Clear Two 127) 16
     ∷ row 10 (1 ∷ []) (B.PeriodOver One) 15 ∷ row 10 (2 ∷ []) (B.PeriodOver Two) 15
+    ∷ row 11 (0 ∷ 255 ∷ 0 ∷ 1 ∷ 0 ∷ []) (B.Setup Terminating 0 255 false 1) 18 ∷ row 11 (127 ∷ 0 ∷ 1 ∷ 15 ∷ replicate 15 14) (B.Setup Terminating 127 0 true 15) 18
     ∷ row 20 (1 ∷ replicate 5 255) (B.RequestReport 1) 15 ∷ row 20 (10 ∷ replicate 50 0) (B.RequestReport 10) 15
     ∷ row 21 [] B.Continue 14
     ∷ row 22 (0 ∷ 1 ∷ 0 ∷ []) (B.Connect 0 1) 16 ∷ row 22 (127 ∷ 15 ∷ replicate 15 14) (B.Connect 127 15) 16
@@ -195,21 +197,27 @@ pub t03 :
 unfolding pairsOf compareOn comparison
 t03 = refl
 
+-- a Setup of the kind k: nature 128, forwarded 2, digit counts 0 and 16, digit 15, counts that do not fit: a digit too few, one too many
+abbrev badSetups : ℕ → List (List ℕ)
+badSetups k =
+    item 19 1 k (128 ∷ 0 ∷ 0 ∷ 1 ∷ 4 ∷ []) ∷ item 19 1 k (4 ∷ 0 ∷ 2 ∷ 1 ∷ 4 ∷ []) ∷ item 18 1 k (4 ∷ 0 ∷ 0 ∷ 0 ∷ []) ∷ item 34 1 k (4 ∷ 0 ∷ 0 ∷ 16 ∷ replicate 16 4)
+    ∷ item 19 1 k (4 ∷ 0 ∷ 0 ∷ 1 ∷ 15 ∷ []) ∷ item 19 1 k (4 ∷ 0 ∷ 0 ∷ 2 ∷ 4 ∷ []) ∷ item 20 1 k (4 ∷ 0 ∷ 0 ∷ 1 ∷ 4 ∷ 4 ∷ [])
+    ∷ []
+
 abbrev badItems : List (List ℕ)
 badItems =
     -- no bytes; 13 bytes; 66 bytes; the length one off; trailing bytes, counted and not
     [] ∷ (0 ∷ 13 ∷ 1 ∷ 6 ∷ replicate 9 0) ∷ item 66 1 20 (10 ∷ replicate 51 0) ∷ item 13 1 6 [] ∷ item 15 1 6 [] ∷ item 15 1 6 (0 ∷ []) ∷ item 14 1 6 (0 ∷ [])
     -- version 0 and 2; kinds that are none
-    ∷ item 14 0 6 [] ∷ item 14 2 6 [] ∷ item 14 1 0 [] ∷ item 14 1 11 [] ∷ item 14 1 19 [] ∷ item 14 1 27 [] ∷ item 14 1 255 []
-    -- Setup: nature 128, forwarded 2, digit counts 0 and 16, digit 15, counts that do not fit: a digit too few, one too many
-    ∷ item 19 1 1 (128 ∷ 0 ∷ 0 ∷ 1 ∷ 4 ∷ []) ∷ item 19 1 1 (4 ∷ 0 ∷ 2 ∷ 1 ∷ 4 ∷ []) ∷ item 18 1 1 (4 ∷ 0 ∷ 0 ∷ 0 ∷ []) ∷ item 34 1 1 (4 ∷ 0 ∷ 0 ∷ 16 ∷ replicate 16 4)
-    ∷ item 19 1 1 (4 ∷ 0 ∷ 0 ∷ 1 ∷ 15 ∷ []) ∷ item 19 1 1 (4 ∷ 0 ∷ 0 ∷ 2 ∷ 4 ∷ []) ∷ item 20 1 1 (4 ∷ 0 ∷ 0 ∷ 1 ∷ 4 ∷ 4 ∷ [])
+    ∷ item 14 0 6 [] ∷ item 14 2 6 [] ∷ item 14 1 0 [] ∷ item 14 1 12 [] ∷ item 14 1 19 [] ∷ item 14 1 27 [] ∷ item 14 1 255 []
+    -- Setups of both kinds
+    ∷ badSetups 1 ++ badSetups 11
     -- causes 128, Mid-call digit 15, legs 0 and 3
-    ∷ item 15 1 2 (128 ∷ []) ∷ item 15 1 3 (128 ∷ []) ∷ item 15 1 7 (15 ∷ []) ∷ item 16 1 9 (1 ∷ 128 ∷ []) ∷ item 16 1 9 (0 ∷ 16 ∷ []) ∷ item 16 1 9 (3 ∷ 16 ∷ [])
+    ++ (item 15 1 2 (128 ∷ []) ∷ item 15 1 3 (128 ∷ []) ∷ item 15 1 7 (15 ∷ []) ∷ item 16 1 9 (1 ∷ 128 ∷ []) ∷ item 16 1 9 (0 ∷ 16 ∷ []) ∷ item 16 1 9 (3 ∷ 16 ∷ [])
     ∷ item 15 1 10 (0 ∷ []) ∷ item 15 1 10 (3 ∷ []) ∷ item 19 1 24 (0 ∷ 0 ∷ 0 ∷ 0 ∷ 1 ∷ []) ∷ item 19 1 24 (3 ∷ 0 ∷ 0 ∷ 0 ∷ 1 ∷ [])
     -- entry counts 0 and 11, a byte of an entry missing; Connect: nature 128, digit counts 0 and 16, digit 15
     ∷ item 15 1 20 (0 ∷ []) ∷ item 70 1 20 (11 ∷ replicate 55 0) ∷ item 19 1 20 (1 ∷ replicate 4 0) ∷ item 17 1 22 (128 ∷ 1 ∷ 4 ∷ []) ∷ item 16 1 22 (4 ∷ 0 ∷ []) ∷ item 32 1 22 (4 ∷ 16 ∷ replicate 16 4) ∷ item 17 1 22 (4 ∷ 1 ∷ 15 ∷ [])
-    ∷ []
+    ∷ [])
 
 pub bad-items-refused : map readItem badItems ≡ map (λ (s : List ℕ). R.Refused 1) badItems
 unfolding all same itemBytes itemInRange restAt bodyFrom bodyOf itemOf isItem readItem

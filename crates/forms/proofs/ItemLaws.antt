@@ -15,6 +15,8 @@ use Rattle.forms.specs.Item.{formOf, fieldBytes, restInRange, itemBytes,
 use Rattle.forms.specs.declared.units.Tenths.{Tenths}
 use Rattle.forms.specs.declared.item.Leg.{Leg}
 use Rattle.forms.specs.declared.item.Leg.the-variants.{One, Two}
+use Rattle.forms.specs.declared.item.Bcsm.{Bcsm}
+use Rattle.forms.specs.declared.item.Bcsm.the-variants.{Originating, Terminating}
 use Rattle.forms.specs.declared.item.Body.{Body}
 use Rattle.forms.specs.declared.item.Body.the-variants as B
 use Rattle.forms.specs.declared.item.Rest.{Rest}
@@ -42,7 +44,7 @@ leg-back Two = refl
 period-back : (p : Tenths) (t : List ℕ) → isPeriod p ≡ true → fromBytes 4 (toBytes 4 (p .0) ++ t) ≡ p .0
 period-back p t h = number-back 4 (p .0) t (omega (arith, leb-true (p .0) longestPeriod (and-right (leb 1 (p .0)) _ h)))
 
--- what the laws and the theorems need of a body's form: only here do they take the seventeen bodies one by one
+-- what the laws and the theorems need of a body's form: only here do they take the bodies one by one
 pub record Formed (b : Body) : Type 0 where
   -- its fields fit their five places; in range, with what follows they are at most 51 bytes
   pub short : length (fieldBytes b) ≤ 5
@@ -59,9 +61,15 @@ alone b s k = record { short = omega arith; bounded = λ h. omega arith; back = 
 numbered : (n c : ℕ) → (nature n .inRange && (digitCount c .inRange && true)) ≡ true → c ≤ mostDigits
 numbered n c h = leb-true c mostDigits (and-right (leb 1 c) _ (and-left (isDigitCount c) true (and-right (nature n .inRange) _ h)))
 
+-- each kind of Setup has its number
+setup-back : (b : Bcsm) (n s : ℕ) (f : Bool) (c : ℕ) (t : List ℕ) → let x = B.Setup b n s f c in bodyOf (formOf x .kind) (fieldBytes x ++ t) ≡ x
+unfolding bodyOf bodyFrom
+setup-back Originating n s f c t = ap (λ x. B.Setup Originating n s x c) (flag-back f)
+setup-back Terminating n s f c t = ap (λ x. B.Setup Terminating n s x c) (flag-back f)
+
 pub formed : (b : Body) → Formed b
 unfolding bodyOf bodyFrom
-formed (B.Setup n s f c) = record { short = lit≤ tt; bounded = λ h. omega (arith, numbered n c h); back = λ t h. ap (λ x. B.Setup n s x c) (flag-back f) }
+formed (B.Setup b n s f c) = record { short = lit≤ tt; bounded = λ h. omega (arith, numbered n c h); back = λ t h. setup-back b n s f c t }
 formed (B.RouteFailure c) = alone (B.RouteFailure c) (lit≤ tt) (λ t h. refl)
 formed (B.Busy c) = alone (B.Busy c) (lit≤ tt) (λ t h. refl)
 formed B.NoAnswer = alone B.NoAnswer (lit≤ tt) (λ t h. refl)

@@ -9,6 +9,8 @@ use Rattle.forms.specs.Units.{isClockReading}
 use Rattle.forms.specs.Fields.{Field, nature, service, forwarded, digitCount, digits, digit, cause, leg, entryCount, period, bytesIn, allInRange, frame, framed}
 use Rattle.forms.specs.declared.item.Leg.{Leg}
 use Rattle.forms.specs.declared.item.Leg.the-variants.{One, Two}
+use Rattle.forms.specs.declared.item.Bcsm.{Bcsm}
+use Rattle.forms.specs.declared.item.Bcsm.the-variants.{Originating, Terminating}
 use Rattle.forms.specs.declared.item.Body.{Body}
 use Rattle.forms.specs.declared.item.Body.the-variants as B
 use Rattle.forms.specs.declared.item.Rest.{Rest}
@@ -32,8 +34,13 @@ pub record Form : Type 0 where
 abbrev pub form : ℕ → List Field → Rest → Form
 form kind fields rest = record { kind = kind; fields = fields; rest = rest }
 
+-- "Kind 11 is a terminating Setup with Setup's body" (T-04, document 02)
+abbrev pub setupKind : Bcsm → ℕ
+setupKind Originating = 1
+setupKind Terminating = 11
+
 abbrev pub formOf : Body → Form
-formOf (B.Setup n s f c) = form 1 (nature n ∷ service s ∷ forwarded f ∷ digitCount c ∷ []) (Digits c)
+formOf (B.Setup b n s f c) = form (setupKind b) (nature n ∷ service s ∷ forwarded f ∷ digitCount c ∷ []) (Digits c)
 formOf (B.RouteFailure c) = form 2 (cause c ∷ []) Nothing
 formOf (B.Busy c) = form 3 (cause c ∷ []) Nothing
 formOf B.NoAnswer = form 4 [] Nothing
@@ -86,8 +93,9 @@ choose n (b ∷ bs) = cond (eqb n (formOf b .kind)) b (choose n bs)
 -- the bodies whose values the bytes are, one of each kind but Abort: b0 to b3 are the first bytes, l the leg that b0 stands for, p the number from b1 on
 abbrev pub bodiesFrom : ℕ → ℕ → ℕ → ℕ → Leg → ℕ → List Body
 bodiesFrom b0 b1 b2 b3 l p =
-    B.Setup b0 b1 (eqb b2 1) b3
+    B.Setup Originating b0 b1 (eqb b2 1) b3
     ∷ B.RouteFailure b0 ∷ B.Busy b0 ∷ B.NoAnswer ∷ B.Seized ∷ B.Answer ∷ B.MidCall b0 ∷ B.Moved ∷ B.Clear l b1 ∷ B.PeriodOver l
+    ∷ B.Setup Terminating b0 b1 (eqb b2 1) b3
     ∷ B.RequestReport b0 ∷ B.Continue ∷ B.Connect b0 b1 ∷ B.Release ∷ B.ApplyCharging l (record { 0 = p }) ∷ B.ActivityTest
     ∷ []
 

@@ -7,7 +7,7 @@ ghost use lib.ListN.{length, drop};
 ghost use Rattle.forms.specs.Bytes.{toBytes};
 ghost use Rattle.forms.specs.Units.{isClockReading};
 ghost use Rattle.forms.specs.Fields.{legNumber};
-ghost use Rattle.forms.specs.Item.{formOf, restInRange, legOf, bodyFrom, bodyOf, callIn, itemOf, itemInRange, isItem, readItem, readItemAt, entryOf, readEntry, fixed, fixedOf};
+ghost use Rattle.forms.specs.Item.{formOf, restInRange, setupKind, legOf, bodyFrom, bodyOf, callIn, itemOf, itemInRange, isItem, readItem, readItemAt, entryOf, readEntry, fixed, fixedOf};
 use crate::bytes;
 use crate::fields;
 use crate::units::Seconds;
@@ -18,10 +18,16 @@ pub enum Leg {
     Two,
 }
 
+// The half of a call that a Setup opens, by its basic call state model: O-BCSM or T-BCSM.
+pub enum Bcsm {
+    Originating,
+    Terminating,
+}
+
 // The fields of a body. The digits or the entries that follow them stay in the lent bytes; a count says how many there are.
 pub enum Body {
-    // Nature, service, forwarded, digit count.
-    Setup(u8, u8, bool, u8),
+    // Kind of call, nature, service, forwarded, digit count.
+    Setup(Bcsm, u8, u8, bool, u8),
     // Cause.
     RouteFailure(u8),
     Busy(u8),
@@ -139,13 +145,22 @@ fn leg_of(two: bool) -> Leg
     if two { Leg::Two } else { Leg::One }
 }
 
+fn setup_kind(bcsm: Bcsm) -> u8
+    ensures { λ r. ⌜ r ≡ setupKind bcsm ⌝ }
+{
+    match bcsm {
+        Bcsm::Originating => 1,
+        Bcsm::Terminating => 11,
+    }
+}
+
 // The table of kinds.
 pub(crate) fn fixed_of(body: Body) -> Fixed
     ensures { λ r. ⌜ r ≡ fixedOf (formOf body) ⌝ }
 {
     match body {
-        Body::Setup(nature, service, forwarded, count) => row(
-            1,
+        Body::Setup(bcsm, nature, service, forwarded, count) => row(
+            setup_kind(bcsm),
             4,
             [nature, service, forwarded as u8, count, 0],
             fields::is_nature(nature) & fields::is_digit_count(count as usize),
@@ -194,7 +209,7 @@ fn body_from(n: u8, b0: u8, b1: u8, b2: u8, b3: u8, leg: Leg, p: u64) -> Body
     ensures { λ r. ⌜ r ≡ bodyFrom n b0 b1 b2 b3 leg p ⌝ }
 {
     match n {
-        1 => Body::Setup(b0, b1, b2 == 1, b3),
+        1 => Body::Setup(Bcsm::Originating, b0, b1, b2 == 1, b3),
         2 => Body::RouteFailure(b0),
         3 => Body::Busy(b0),
         4 => Body::NoAnswer,
@@ -204,6 +219,7 @@ fn body_from(n: u8, b0: u8, b1: u8, b2: u8, b3: u8, leg: Leg, p: u64) -> Body
         8 => Body::Moved,
         9 => Body::Clear(leg, b1),
         10 => Body::PeriodOver(leg),
+        11 => Body::Setup(Bcsm::Terminating, b0, b1, b2 == 1, b3),
         20 => Body::RequestReport(b0),
         21 => Body::Continue,
         22 => Body::Connect(b0, b1),

@@ -1,6 +1,6 @@
 -- Document 01's edges P1 to P10 in a single statement over a list of cases, each computed: bytes as they read, and runs on the table.
 -- The cases of `forms` and of `call` are taken up, those of `call` on a fresh table; the listing example, slots and damaged tables stand beside them.
-use Prim.Native.Nat.{ℕ, zero, suc}
+use Prim.Native.Nat.{ℕ, zero, suc, _+_, _*_}
 use mathlib.Core.Path.{_≡_, refl}
 use mathlib.Core.Bool.{Bool, true, false}
 use mathlib.Core.List.{List, [], _∷_, _++_, map, flatten}
@@ -11,6 +11,7 @@ use Rattle.forms.specs.Bytes.{contains, leads, same}
 use Rattle.forms.specs.Item.{itemBytes, itemInRange, restAt, bodyFrom, bodyOf, itemOf, isItem, readItem, entryOf}
 use Rattle.forms.specs.Profile.{fieldsOf, profileBytes, profileInRange, numbersAt, numbersEnd, viewAt, profileOf, isProfile, someMatches}
 use Rattle.forms.specs.declared.item.Body.{Body}
+use Rattle.forms.specs.declared.item.Bcsm.the-variants.{Originating, Terminating}
 use Rattle.forms.specs.declared.item.Body.the-variants as body
 use Rattle.forms.proofs.Cases as forms
 use Rattle.call.specs.declared.answers.Answer.the-variants.{Refused}
@@ -38,7 +39,7 @@ use Rattle.table.specs.Check.{calls, among, isOnce}
 use Rattle.table.specs.Lookup.{locateOf}
 use Rattle.table.specs.Serve.{servedOf, fedOf}
 use Rattle.table.specs.Demands.{byItself}
-use Rattle.table.proofs.LineCases.{triggered, ended}
+use Rattle.table.proofs.LineCases.{triggered, triggeredAt12, ended}
 
 -- ---- what a case is
 
@@ -99,7 +100,10 @@ abbrev itemOfCall : ℕ → Body → List ℕ → Input
 itemOfCall k b rest = record { item = itemBytes (record { call = k; time = record { 0 = 1000 }; body = b }) rest; profile = plain }
 
 abbrev setup : ℕ → Input
-setup k = itemOfCall k (body.Setup 4 0 false 1) (4 ∷ [])
+setup k = itemOfCall k (body.Setup Originating 4 0 false 1) (4 ∷ [])
+
+abbrev terminating : ℕ → Input
+terminating k = itemOfCall k (body.Setup Terminating 4 0 false 1) (4 ∷ [])
 
 abbrev release : ℕ → Input
 release k = itemOfCall k body.Release []
@@ -115,10 +119,14 @@ malformed = record { item = []; profile = plain }
 abbrev tooLong : Input
 tooLong = record { item = setup 9 .item ++ (0 ∷ []); profile = [] }
 
--- Setups of the calls n, …, 1
+-- Setups of the calls n, …, 1; and of two n, of both kinds by turns
 abbrev setups : ℕ → List Input
 setups zero = []
 setups (suc n) = setup (suc n) ∷ setups n
+
+abbrev mixed : ℕ → List Input
+mixed zero = []
+mixed (suc n) = terminating (2 * n + 2) ∷ setup (2 * n + 1) ∷ mixed n
 
 -- ---- tables: call 7 open in slot 0, with its record changed as given; and slot 1 changed
 
@@ -154,12 +162,17 @@ abbrev shown : List Case
 shown =
     named (P1 ∷ P2 ∷ P7 ∷ P7 ∷ P7 ∷ []) (map (λ (c : forms.Case). reads (c .bytes) (c .says)) forms.edges)
     ++ named
-    (Listing ∷ P2 ∷ P3 ∷ Listing ∷ Listing ∷ Listing ∷ P3 ∷ P4 ∷ P4 ∷ P5 ∷ P5 ∷ P6 ∷ P6 ∷ P6 ∷ P7 ∷ P7 ∷ P7 ∷ P8 ∷ P8 ∷ P8 ∷ P9 ∷ P9 ∷ P9 ∷ P9 ∷ P10 ∷ P10 ∷ P10 ∷ [])
+    (Listing ∷ P2 ∷ P3 ∷ Listing ∷ Listing ∷ Listing ∷ P3 ∷ P4 ∷ P4 ∷ P5 ∷ P5 ∷ P6 ∷ P6 ∷ P6 ∷ P7 ∷ P7 ∷ P7 ∷ P8 ∷ P8 ∷ P8 ∷ P9 ∷ P9 ∷ P9 ∷ P9 ∷ P10 ∷ P10 ∷ P10
+    -- of terminating calls
+    ∷ P3 ∷ P4 ∷ P4 ∷ P5 ∷ P5 ∷ P9 ∷ P9 ∷ P9 ∷ P9 ∷ P10 ∷ P10 ∷ P10 ∷ OneCall ∷ OneCall ∷ P3 ∷ [])
     (map (λ (c : call.Case). answers (fresh ourSlots) (c .before) ((c .last, c .answer) ∷ [])) call.runs)
     -- the listing as one run: its six answers
     ++ named (Listing ∷ []) (answers (fresh ourSlots) [] (map (λ (c : call.Case). (c .last, c .answer)) (take 6 call.runs)) ∷ [])
-    -- P8 with 64 open: a new Setup is 6, one for an open call 5; 2 comes before both
-    ++ named (P8 ∷ []) (answers (fresh ourSlots) (setups 64) ((bare (setup 65), Refused 2) ∷ (bare (setup 1), Refused 2) ∷ (setup 65, Refused 6) ∷ (setup 64, Refused 5) ∷ (setup 1, Refused 5) ∷ []) ∷ [])
+    -- P8 with 64 open, originating ones and of both kinds: a new Setup is 6, one for an open call 5, of either kind; 2 comes before both
+    ++ named (P8 ∷ P8 ∷ [])
+    (answers (fresh ourSlots) (setups 64) ((bare (setup 65), Refused 2) ∷ (bare (setup 1), Refused 2) ∷ (setup 65, Refused 6) ∷ (setup 64, Refused 5) ∷ (setup 1, Refused 5) ∷ [])
+    ∷ answers (fresh ourSlots) (mixed 32) ((bare (terminating 65), Refused 2) ∷ (setup 65, Refused 6) ∷ (terminating 65, Refused 6) ∷ (setup 2, Refused 5) ∷ (terminating 1, Refused 5) ∷ (terminating 2, Refused 5) ∷ [])
+    ∷ [])
     -- "Setup takes the lowest free slot. Freed slots are used again."
     ++ named (Slots ∷ Slots ∷ [])
     (owners (setup 7 ∷ setup 8 ∷ setup 9 ∷ release 9 ∷ release 7 ∷ setup 10 ∷ []) (some 10 ∷ some 8 ∷ none ∷ none ∷ [])
@@ -176,7 +189,7 @@ cases = refl
 -- ---- a Setup that is handed in as a value, on a fresh table and on a damaged one; a time past the last clock reading would be written as 1000
 
 abbrev valueAt : ℕ → Item
-valueAt time = record { call = 7; time = record { 0 = time }; body = body.Setup 4 0 false 1 }
+valueAt time = record { call = 7; time = record { 0 = time }; body = body.Setup Originating 4 0 false 1 }
 
 abbrev fedAt : ℕ → List Answer
 fedAt time = map (λ (t : List Slot). feedItemOf t (valueAt time) (4 ∷ []) plain .0) (fresh ourSlots ∷ drop 1 (fresh ourSlots) ∷ [])
@@ -185,12 +198,12 @@ pub as-values : map fedAt (1000 ∷ 281474976711656 ∷ []) ≡ (triggered ∷ R
 unfolding flatten bytes.all contains leads same itemBytes itemInRange restAt bodyFrom bodyOf itemOf isItem readItem entryOf fieldsOf profileBytes profileInRange numbersAt numbersEnd viewAt profileOf isProfile someMatches triggers someArmed nothingArmed entriesOf areGood arePossible armedWith met continued aborted respondIn earlyOf setUpOf openOf placesInRange numberInRange inRangeOf areFieldsBlank isBlank log final next find all fresh once isSound unless store seat setupAt otherAt serve damage tableStep blankSlot
 as-values = refl
 
--- ---- two calls by turns, one closed and opened again, and a third that is not open
+-- ---- two calls by turns, an originating and a terminating one, the first closed and opened again as a terminating one; and a third that is not open
 
 abbrev turns : List (Input × Answer)
 turns =
-    (setup 7, triggered) ∷ (setup 8, triggered) ∷ (release 7, ended) ∷ (release 7, Refused 4) ∷ (setup 8, Refused 5) ∷ (release 9, Refused 4) ∷ (setup 7, triggered)
-    ∷ (bare (setup 8), Refused 2) ∷ (release 8, ended) ∷ []
+    (setup 7, triggered) ∷ (terminating 8, triggeredAt12) ∷ (release 7, ended) ∷ (release 7, Refused 4) ∷ (setup 8, Refused 5) ∷ (release 9, Refused 4) ∷ (terminating 7, triggeredAt12)
+    ∷ (bare (terminating 8), Refused 2) ∷ (release 8, ended) ∷ []
 
 abbrev items : List Input
 items = map (λ (e : Input × Answer). e .0) turns
@@ -229,8 +242,8 @@ abbrev its : ℕ → List Input × List Answer × Option ℕ
 its k = (itemsOf ourCall k items, answersIn (linesOf ourCall k turns), keptIn (look ourSlots k two))
 
 pub of-each-call : map its (7 ∷ 8 ∷ 9 ∷ [])
-    ≡ (setup 7 ∷ release 7 ∷ release 7 ∷ setup 7 ∷ [], triggered ∷ ended ∷ Refused 4 ∷ triggered ∷ [], some 0)
-    ∷ (setup 8 ∷ setup 8 ∷ bare (setup 8) ∷ release 8 ∷ [], triggered ∷ Refused 5 ∷ Refused 2 ∷ ended ∷ [], some 30)
+    ≡ (setup 7 ∷ release 7 ∷ release 7 ∷ terminating 7 ∷ [], triggered ∷ ended ∷ Refused 4 ∷ triggeredAt12 ∷ [], some 0)
+    ∷ (terminating 8 ∷ setup 8 ∷ bare (terminating 8) ∷ release 8 ∷ [], triggeredAt12 ∷ Refused 5 ∷ Refused 2 ∷ ended ∷ [], some 30)
     ∷ (release 9 ∷ [], Refused 4 ∷ [], none)
     ∷ []
 unfolding flatten bytes.all contains leads same itemBytes itemInRange restAt bodyFrom bodyOf itemOf isItem readItem entryOf fieldsOf profileBytes profileInRange numbersAt numbersEnd viewAt profileOf isProfile someMatches triggers someArmed nothingArmed entriesOf areGood arePossible armedWith met continued aborted respondIn earlyOf setUpOf openOf placesInRange numberInRange inRangeOf areFieldsBlank isBlank log final next find all fresh once isSound unless store seat setupAt otherAt serve damage tableStep blankSlot only consIf look first

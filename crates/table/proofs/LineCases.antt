@@ -41,9 +41,15 @@ abbrev linesFrom : ℕ → List Answer → List ℕ
 linesFrom n [] = []
 linesFrom n (a ∷ l) = lineOf n (valuesOf a) ++ linesFrom (suc n) l
 
--- "ok control 2 r2/1" and "ok none - over"
+-- "ok control 2 r2/1", of a terminating call "ok control 12 r12/1"; and "ok none - over"
+abbrev triggeredAt : ℕ → Answer
+triggeredAt n = ok Control (S.At (n ╱ One)) (R.Interrupting (n ╱ One)) C.None C.None D.None false
+
 abbrev pub triggered : Answer
-triggered = ok Control (S.At (2 ╱ One)) (R.Interrupting (2 ╱ One)) C.None C.None D.None false
+triggered = triggeredAt 2
+
+abbrev pub triggeredAt12 : Answer
+triggeredAt12 = triggeredAt 12
 
 abbrev pub ended : Answer
 ended = ok None S.None R.None C.None C.None D.None true

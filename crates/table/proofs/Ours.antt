@@ -13,7 +13,6 @@ use Rattle.forms.specs.Profile.{profileOf, isProfile}
 use Rattle.forms.specs.declared.units.Tenths.{Tenths}
 use Rattle.forms.proofs.ByteLaws.{and-left, and-right}
 use Rattle.call.specs.declared.answers.Answer.the-variants.{Accepted, Refused}
-use Rattle.call.specs.Record.{setOf}
 use Rattle.call.specs.Answers.{isAccepted, remains}
 use Rattle.call.specs.Kind.{isSetup}
 use Rattle.call.specs.Range.{recordInRange}
@@ -71,7 +70,7 @@ open-remains (Refused n) before over next q = absurd (false≢true (q .0))
 
 -- ---- in range in, in range out
 
-left-in-range : (s : Stepped) (t : Tenths) → isLeftWell (setOf (s .next)) t s ≡ true → onNext recordInRange (effectAs (s .answer) (s .next)) ≡ true
+left-in-range : (s : Stepped) (t : Tenths) → isLeftWell t s ≡ true → onNext recordInRange (effectAs (s .answer) (s .next)) ≡ true
 left-in-range s t h =
     on-remains (onNext recordInRange) (s .answer) (refuses (s .answer)) (ends (s .answer)) (goes (s .answer) (s .next)) ∙ go (s .answer) (recordInRange (s .next)) _ h
   where

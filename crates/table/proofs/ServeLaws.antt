@@ -15,7 +15,8 @@ use Rattle.forms.proofs.ByteLaws.{picked}
 use Rattle.forms.proofs.ItemTheorems.{read-back}
 use Rattle.call.specs.declared.answers.Answer.the-variants.{Accepted, Refused}
 use Rattle.call.specs.declared.setup.Early.the-variants as early
-use Rattle.call.specs.Record.{blank, setOf}
+use Rattle.call.specs.Points.{setOf}
+use Rattle.call.specs.Record.{blank}
 use Rattle.call.specs.Step.{respondOf}
 use Rattle.call.specs.Setup.{earlyOf, setUpOf, openedBy, openOf}
 use Rattle.call.specs.Alone.{Input}
@@ -73,7 +74,7 @@ module _ (t : List Slot) where
     unfolding otherAt
     other-at none none = refl
     other-at none (some j) = refl
-    other-at (some j) free = stores (itemIn x .call) j (respondOf (recordAt j) (itemIn x) (restIn x)) (respond-remains (setOf (recordAt j)) (recordAt j) (itemIn x) (restIn x))
+    other-at (some j) free = stores (itemIn x .call) j (respondOf (recordAt j) (itemIn x) (restIn x)) (respond-remains (setOf (recordAt j .bcsm)) (recordAt j) (itemIn x) (restIn x))
 
 -- what did not refuse early comes to the check
 abbrev later : List ℕ

@@ -1,7 +1,7 @@
-// A slot of the table as 87 bytes, both ways: the form in which the test program takes tables that no run reaches, damaged ones too.
+// A slot of the table as 88 bytes, both ways: the form in which the test program takes tables that no run reaches, damaged ones too.
 // Numbers are big-endian. Each field has a fixed place, so that any value which a slot can hold has a form, but for the called number's 16th place, which is zero here:
 //   0 owner (0 free, 1 a call), 1 call (4), 5 stage, 6 leg 1, 24 leg 2, 42 hold, 43 last time (8), 51 ten armings,
-//   61 kept timer (4), 65 default timer (4), 69 default handling, 70 called number: nature, count, 15 digits
+//   61 kept timer (4), 65 default timer (4), 69 default handling, 70 called number: nature, count, 15 digits, 87 kind of call
 // A leg: presence, clock of its charge (0 none, 1 waiting, 2 running), period (8), start (8). Enums are numbered as they are declared, but for the modes (1 interrupted, 2 notify); a hold at a role is 2 more than the role's place.
 ghost use Prim.Native.Nat.{_<_};
 use call::armings::*;
@@ -9,12 +9,13 @@ use call::record::*;
 use call::roles::Role;
 use call::stages::Stage;
 use forms::bytes;
+use forms::item::Bcsm;
 use forms::profile::Handling;
 use forms::units::*;
 use table::slot::Owner;
 use table::slot::Slot;
 
-pub const SIZE: usize = 87;
+pub const SIZE: usize = 88;
 
 fn number4(s: &[u8], at: usize) -> u32 {
     bytes::number4(bytes::from(s, at)) as u32
@@ -108,6 +109,13 @@ fn handling_of(b: u8) -> Handling {
     }
 }
 
+fn bcsm_of(b: u8) -> Bcsm {
+    match b {
+        1 => Bcsm::Terminating,
+        _ => Bcsm::Originating,
+    }
+}
+
 fn number_at(s: &[u8], at: usize) -> Number {
     let t = bytes::from(s, at);
     let mut digits = [0u8; PLACES];
@@ -136,6 +144,7 @@ fn record_at(s: &[u8]) -> Record {
     let timer = Seconds(number4(s, 65));
     let handling = handling_of(bytes::at(s, 69));
     let number = number_at(s, 70);
+    let bcsm = bcsm_of(bytes::at(s, 87));
     Record {
         last,
         period1,
@@ -153,6 +162,7 @@ fn record_at(s: &[u8]) -> Record {
         leg2,
         clock1,
         clock2,
+        bcsm,
     }
 }
 
@@ -295,6 +305,13 @@ fn handling_number(handling: Handling) -> u8 {
     }
 }
 
+fn bcsm_number(bcsm: Bcsm) -> u8 {
+    match bcsm {
+        Bcsm::Originating => 0,
+        Bcsm::Terminating => 1,
+    }
+}
+
 fn put_number(d: &mut [u8], number: Number) {
     put(d, 70, number.nature);
     put(d, 71, number.count);
@@ -327,12 +344,14 @@ fn put_settings(d: &mut [u8], r: Record) {
     let timer = r.timer;
     let handling = r.handling;
     let number = r.number;
+    let bcsm = r.bcsm;
     let modes = mode_numbers(armings);
     put_bytes(d, 51, &modes);
     put4(d, 61, kept.0);
     put4(d, 65, timer.0);
     put(d, 69, handling_number(handling));
     put_number(d, number);
+    put(d, 87, bcsm_number(bcsm));
 }
 
 // The form of a slot, at the start of d.

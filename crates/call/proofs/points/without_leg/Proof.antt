@@ -6,22 +6,22 @@ use borrow.Author.Needs.{needs}
 use lib.ListN.{drop}
 use Rattle.call.specs.Roles.{roles}
 use Rattle.call.specs.Armings.{disarmed}
-use Rattle.call.specs.Points.{originating, isOnLeg, picked, onLeg}
+use Rattle.call.specs.Points.{setOf, isOnLeg, picked, onLeg}
 use Rattle.call.proofs.PointLaws.{leg-step, roles-end}
 use Rattle.call.proofs.points.without_leg.Statement.{statement}
 use Rattle.call.proofs.points.without_leg.Tie as tie
 
 abbrev Inv-loop : tie.InvT-loop
-Inv-loop leg b₀ i₀ b i = (i ≤ 10) × (disarmed (picked (λ p. isOnLeg originating p leg) (drop i roles)) b ≡ disarmed (onLeg originating leg) b₀)
+Inv-loop bcsm leg b₀ i₀ b i = (i ≤ 10) × (disarmed (picked (λ p. isOnLeg (setOf bcsm) p leg) (drop i roles)) b ≡ disarmed (onLeg (setOf bcsm) leg) b₀)
 
 abbrev μ-loop : tie.MeasureT-loop
-μ-loop leg b₀ i₀ b i = 10 - i
+μ-loop bcsm leg b₀ i₀ b i = 10 - i
 
 loop-again : tie.Need-loop-again Inv-loop μ-loop
 loop-again c =
     let q = c .before .before .before in
     let p = q .before .before in
-    (omega arith, rw (c .unarmed-if .ensures, c .before .is-on-leg .ensures, q .point-in .ensures, q .before .role-at .ensures) (leg-step originating (p .before .before .args .leg) (p .before .loop .i) (p .loop-test .taken) (p .before .loop .b) ∙ p .before .loop .inv .1))
+    (omega arith, rw (c .unarmed-if .ensures, c .before .is-on-leg .ensures, q .point-in .ensures, q .before .role-at .ensures) (leg-step (setOf (p .before .before .args .bcsm)) (p .before .before .args .leg) (p .before .loop .i) (p .loop-test .taken) (p .before .loop .b) ∙ p .before .loop .inv .1))
 
 returns : tie.Need-returns Inv-loop μ-loop
 returns c = rw (roles-end _ (c .loop-test .left)) at (c .before .loop .inv .1)

@@ -7,9 +7,9 @@ use Rattle.call.proofs.range.are_fields_blank.Tie as tie
 returns : tie.Need-returns
 unfolding areFieldsBlank
 returns c =
-    let h = c .before .before .before .before in
+    let h = c .before .before .before .before .before in
     let a = h .before .before .before in
-    rw (c .is-release .ensures, h .is-held .ensures, h .before .is-unused2 .ensures, h .before .before .is-unused .ensures, a .is-analysing .ensures, a .before .leg-at2 .ensures, a .before .before .leg-at .ensures)
+    rw (c .is-originating .ensures, c .before .is-release .ensures, h .is-held .ensures, h .before .is-unused2 .ensures, h .before .before .is-unused .ensures, a .is-analysing .ensures, a .before .leg-at2 .ensures, a .before .before .leg-at .ensures)
 
 pub are-fields-blank-spec : {M : Type 1} → statement M
-are-fields-blank-spec = tie.close (tie.spec (search needs) (search needs) (search needs) (search needs) (search needs) (search needs) (search needs) returns)
+are-fields-blank-spec = tie.close (tie.spec (search needs) (search needs) (search needs) (search needs) (search needs) (search needs) (search needs) (search needs) returns)

@@ -1,4 +1,4 @@
--- `call::range::record_in_range` meets its contract: its eight tests are the definition's, of a call whose points are document 01's.
+-- `call::range::record_in_range` meets its contract: its tests are the definition's, of a call whose points go by its kind.
 use borrow.Author.Needs.{needs}
 use Rattle.call.specs.Range.{inRangeOf}
 use Rattle.call.proofs.range.record_in_range.Statement.{statement}
@@ -8,12 +8,12 @@ returns : tie.Need-returns
 unfolding inRangeOf
 returns c =
     let l = c .before .before .before .before in
-    let g = l .before .before .before in
+    let g = l .before .before in
     let m = g .before .before .before in
-    simp (c .number-in-range .ensures, c .before .is-default-timer .ensures, c .before .before .is-timer .ensures, c .before .before .before .armings-in-range .ensures, l .is-clock-reading .ensures, l .before .hold-in-range .ensures, l .before .before .charge-in-range2 .ensures, g .charge-in-range .ensures, m .leg-at2 .ensures, m .before .leg-at .ensures)
+    rw (c .points-in-range .ensures, c .before .number-in-range .ensures, c .before .before .is-default-timer .ensures, c .before .before .before .is-timer .ensures, l .is-clock-reading .ensures, l .before .charge-in-range2 .ensures, g .charge-in-range .ensures, m .leg-at2 .ensures, m .before .leg-at .ensures)
 
 pub record-in-range-spec : {M : Type 1} → statement M
 record-in-range-spec =
     tie.close
     (tie.spec (search needs) (search needs) (search needs) (search needs) (search needs) (search needs) (search needs)
-    (search needs) (search needs) (search needs) returns)
+    (search needs) (search needs) returns)

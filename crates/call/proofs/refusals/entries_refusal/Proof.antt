@@ -6,19 +6,19 @@ use native.Mathlib.Nat.{sub-zero}
 use native.Mathlib.Omega.{arith}
 use borrow.Author.Needs.{needs}
 use lib.ListN.{drop}
-use Rattle.call.specs.Points.{originating}
+use Rattle.call.specs.Points.{setOf}
 use Rattle.call.specs.Request.{entriesOf, areGood, noneSeen, arePossible}
 use Rattle.call.proofs.Laws.{good-step, good-stop, good-end, possible-step, possible-end}
 use Rattle.call.proofs.refusals.entries_refusal.Statement.{statement}
 use Rattle.call.proofs.refusals.entries_refusal.Tie as tie
 
 abbrev Inv-loop : tie.InvT-loop
-Inv-loop r n t seen₀ possible₀ i₀ seen possible i =
-    (i ≤ n) × (areGood originating seen (entriesOf (n - i) (drop (i * 5) t)) ≡ areGood originating noneSeen (entriesOf n t))
-    × ((possible && arePossible originating r (entriesOf (n - i) (drop (i * 5) t))) ≡ arePossible originating r (entriesOf n t))
+Inv-loop r n t bcsm seen₀ possible₀ i₀ seen possible i =
+    (i ≤ n) × (areGood (setOf bcsm) seen (entriesOf (n - i) (drop (i * 5) t)) ≡ areGood (setOf bcsm) noneSeen (entriesOf n t))
+    × ((possible && arePossible (setOf bcsm) r (entriesOf (n - i) (drop (i * 5) t))) ≡ arePossible (setOf bcsm) r (entriesOf n t))
 
 abbrev μ-loop : tie.MeasureT-loop
-μ-loop r n t seen₀ possible₀ i₀ seen possible i = n - i
+μ-loop r n t bcsm seen₀ possible₀ i₀ seen possible i = n - i
 
 loop-again : tie.Need-loop-again Inv-loop μ-loop
 loop-again c =

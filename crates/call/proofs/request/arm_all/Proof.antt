@@ -5,17 +5,17 @@ use native.Mathlib.Nat.{sub-zero}
 use native.Mathlib.Omega.{arith}
 use borrow.Author.Needs.{needs}
 use lib.ListN.{drop}
-use Rattle.call.specs.Points.{originating}
+use Rattle.call.specs.Points.{setOf}
 use Rattle.call.specs.Request.{entriesOf, armedWith}
 use Rattle.call.proofs.Laws.{arm-step, arm-end}
 use Rattle.call.proofs.request.arm_all.Statement.{statement}
 use Rattle.call.proofs.request.arm_all.Tie as tie
 
 abbrev Inv-loop : tie.InvT-loop
-Inv-loop n t s₀ i₀ s i = (i ≤ n) × (armedWith originating s (entriesOf (n - i) (drop (i * 5) t)) ≡ armedWith originating s₀ (entriesOf n t))
+Inv-loop n t bcsm s₀ i₀ s i = (i ≤ n) × (armedWith (setOf bcsm) s (entriesOf (n - i) (drop (i * 5) t)) ≡ armedWith (setOf bcsm) s₀ (entriesOf n t))
 
 abbrev μ-loop : tie.MeasureT-loop
-μ-loop n t s₀ i₀ s i = n - i
+μ-loop n t bcsm s₀ i₀ s i = n - i
 
 loop-again : tie.Need-loop-again Inv-loop μ-loop
 loop-again c =

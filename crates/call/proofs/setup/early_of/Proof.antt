@@ -15,7 +15,7 @@ returns : tie.Need-returns
 returns c =
     let k = c .before .before in
     let a = k .before .before .before .before .before .args in
-    c .read-opening .ensures ∙ early-setup (a .item) (a .rest .now) (a .profile .now) _ _ _ _ (sym (k .before .before .kind-of .ensures) ∙ k .k .given .1)
+    c .read-opening .ensures ∙ early-setup (a .item) (a .rest .now) (a .profile .now) _ _ _ _ _ (sym (k .before .before .kind-of .ensures) ∙ k .k .given .1)
 
 returns-2 : tie.Need-returns-2
 returns-2 c =

@@ -8,7 +8,7 @@ pub fixed-of-spec : {M : Type 1} → statement M
 fixed-of-spec =
     tie.close
     (tie.spec
-    (λ c. search needs) (λ c. search needs) (λ c κs. search needs) (λ c. search needs) (λ c κs. search needs) (λ c κs. search needs)
+    (λ c. search needs) (λ c κs. search needs) (λ c. search needs) (λ c κs. search needs) (λ c. search needs) (λ c κs. search needs) (λ c κs. search needs)
     (λ c. search needs) (λ c κs. search needs) (λ c κs. search needs) (λ c. search needs) (λ c κs. search needs) (λ c κs. search needs)
     (λ c. search needs) (λ c κs. search needs) (λ c. search needs) (λ c κs. search needs) (λ c. search needs) (λ c κs. search needs)
     (λ c. search needs) (λ c κs. search needs) (λ c κs. search needs) (λ c. search needs) (λ c κs. search needs) (λ c. search needs)
@@ -17,7 +17,7 @@ fixed-of-spec =
     (λ c κs. search needs) (λ c. search needs) (λ c κs. search needs) (λ c κs. search needs) (λ c. search needs) (λ c κs. search needs)
     (λ c. search needs) (λ c κs. search needs) (λ c κs. search needs) (λ c κs. search needs) (λ c. search needs) (λ c κs. search needs)
     (λ c. search needs) (λ c κs. search needs)
-    (λ c. rw (c .row .ensures, c .before .is-digit-count .ensures, c .before .before .is-nature .ensures, c .before .before .before .before .body .given .1, and-true))
+    (λ c. rw (c .row .ensures, c .before .is-digit-count .ensures, c .before .before .is-nature .ensures, c .before .before .before .setup-kind .ensures, c .before .before .before .before .before .body .given .1, and-true))
     (λ c. rw (c .one-field .ensures, c .before .is-cause .ensures, c .before .before .before .body2 .given .1, and-true))
     (λ c. rw (c .one-field2 .ensures, c .before .is-cause2 .ensures, c .before .before .before .body3 .given .1, and-true))
     (λ c. rw (c .no-field .ensures, c .before .enum-told .given .1))
