@@ -5,6 +5,8 @@
 //! Document 01, sections "The listing program" and "Both sides of each edge";
 //! document 02, T-02 and T-03.
 
+mod terminating;
+
 use crate::bench::measure;
 use crate::bench::rounds;
 use crate::compare::chunks::{self, Case, Step};
@@ -13,9 +15,11 @@ use crate::compare::compare_listings::{self, Pieces};
 use crate::compare::generate;
 use crate::compare::random::Random;
 use crate::compare::triggers::{self, DIALLED_WITH_LONG_LIST, FROM_FRONT, LAST_FIRST, LONG_LIST};
+use crate::paper::answer::{Accepted, Answer};
 use crate::paper::feeder::Feeder;
+use crate::paper::forms::CallKind;
 use crate::paper::listing::{self, frames};
-use crate::paper::table;
+use crate::paper::table::{self, Entry, ENTRIES};
 use crate::paper::trigger::{compare, compare_from_front, Compared};
 use crate::texts;
 use std::io::BufReader;
@@ -474,16 +478,45 @@ fn range_of_calls() {
     }
 }
 
+/// The answers to a run of `bench`, and the table that it leaves.
+fn feed_bench_input(call_kind: CallKind, open: u32) -> (Vec<Answer>, [Entry; ENTRIES]) {
+    let input = measure::input(call_kind, open, 2500).unwrap();
+    let frames = frames(&input);
+    let mut table = table::fresh();
+    let feed = |item: &&[u8]| table::feed_sound(&mut table, item, frames[0]);
+    (frames[1..].iter().map(feed).collect(), table)
+}
+
 /// So that `bench` can feed the same items round after round.
 #[test]
 fn bench_input_ends_with_an_empty_table() {
-    for open in [1, 32, 64] {
-        let input = measure::input(open, 2500).unwrap();
-        let frames = frames(&input);
-        let mut table = table::fresh();
-        for item in &frames[1..] {
-            let _ = table::feed_sound(&mut table, item, frames[0]);
+    for call_kind in CallKind::BOTH {
+        for open in [1, 32, 64] {
+            let (_, table) = feed_bench_input(call_kind, open);
+            assert_eq!(table, table::fresh());
         }
-        assert_eq!(table, table::fresh());
+    }
+}
+
+/// So that both kinds of call can be held to each other: only the points are
+/// others.
+#[test]
+fn bench_input_of_both_kinds() {
+    let without_points = |answer: Answer| {
+        answer.map(|accepted| Accepted {
+            hold: None,
+            event_report: None,
+            ..accepted
+        })
+    };
+    let reported = |answer: &Answer| answer.ok().and_then(|answer| answer.event_report);
+    for open in [1, 32, 64] {
+        let [originating, terminating] =
+            CallKind::BOTH.map(|call_kind| feed_bench_input(call_kind, open).0);
+        assert_eq!(originating.len(), terminating.len());
+        for (one, other) in originating.into_iter().zip(terminating) {
+            assert_eq!(reported(&one).is_some(), reported(&other).is_some());
+            assert_eq!(without_points(one), without_points(other));
+        }
     }
 }

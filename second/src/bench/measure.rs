@@ -1,24 +1,34 @@
 //! Measuring this program beside the proved one: the listing programs on one
-//! long input; feeding a table, item for item; trigger checks with a long list,
-//! as they were before T-03 and as they are; and the instructions of both.
+//! long input; feeding a table, item for item, with originating calls and with
+//! terminating ones; trigger checks with a long list, as they were before T-03
+//! and as they are; and the instructions of both.
 
 use crate::bench::programs::{self, Program};
 use crate::bench::rounds::{self, Rounds};
 use crate::compare::triggers::{self, DIALLED_WITH_LONG_LIST, FROM_FRONT, LAST_FIRST, LONG_LIST};
 use crate::output;
-use crate::paper::forms::write_item;
+use crate::paper::forms::{kind, write_item, CallKind, ENTRY_BYTES};
 use crate::paper::listing::frames;
+use crate::paper::record::{Part, Point};
 use crate::paper::table::{self, Entry, ENTRIES};
 use crate::texts;
 use std::path::Path;
 use std::process::{self, Stdio};
 use std::time::Duration;
-use std::{env, fs, io};
+use std::{env, fs, io, iter};
 
 /// Which function is fed with: the first byte of the input of `feed-items`.
 const FEED: u8 = 0;
 const FEED_SOUND: u8 = 1;
-const FUNCTIONS: [(u8, &str); 2] = [(FEED, "feed"), (FEED_SOUND, "feed_sound")];
+
+/// What is measured of feeding: with which function, and which kind of call.
+const FEEDINGS: [(u8, CallKind, &str); 4] = [
+    (FEED, CallKind::Originating, "feed"),
+    (FEED_SOUND, CallKind::Originating, "feed_sound"),
+    (FEED, CallKind::Terminating, "feed, terminating"),
+    (FEED_SOUND, CallKind::Terminating, "feed_sound, terminating"),
+];
+
 /// About so many items make a round; they stay below the longest input.
 const ROUND_ITEMS: usize = 2500;
 
@@ -41,10 +51,17 @@ pub fn feed_items(input: &[u8]) -> Result<String, String> {
 
 /// Without criteria: every Setup triggers.
 const PROFILE: &str = "profile continue 120";
-const SETUP: &str = "setup 4/491512345 service 17";
+
+fn setup(call_kind: CallKind) -> &'static str {
+    match call_kind {
+        CallKind::Originating => "setup 4/491512345 service 17",
+        CallKind::Terminating => "terminating-setup 4/491512345 service 17",
+    }
+}
 
 /// What happens to a call in its turns, ten seconds apart: it is answered,
-/// charged, cleared by the called party, connected anew, and busy.
+/// charged, cleared by the called party, connected anew, and busy. The points are
+/// those of an originating call.
 const LIFE: [&str; 23] = [
     "request-report 5/2 interrupted, 6/2 interrupted timer 30, 7/2 notify",
     "request-report 9/2 interrupted, 10/1 notify",
@@ -71,16 +88,33 @@ const LIFE: [&str; 23] = [
     "busy cause 17", // the call is over
 ];
 
-/// A run with so many calls open: they are set up, about so many items follow
-/// over them in turn, and at the end all are released.
-pub fn input(open: u32, items: usize) -> Result<Vec<u8>, String> {
+/// An item of `LIFE` as a call of this kind gets it: a Request report names the
+/// points of the same parts. Where the call has none, No answer stands in for
+/// it: it is not met either, and goes with its leg.
+fn item_for(call_kind: CallKind, (kind, mut body): KindAndBody) -> KindAndBody {
+    if kind == kind::REQUEST_REPORT {
+        for entry in body[1..].chunks_exact_mut(ENTRY_BYTES) {
+            let part = CallKind::Originating.part(entry[0], entry[1]);
+            let point = part.and_then(|part| call_kind.point(part));
+            let point = point.or_else(|| call_kind.point(Part::NoAnswer));
+            if let Some(Point { number, leg }) = point {
+                entry[..2].copy_from_slice(&[number, leg.number()]);
+            }
+        }
+    }
+    (kind, body)
+}
+
+/// A run with so many calls of this kind open: they are set up, about so many
+/// items follow over them in turn, and at the end all are released.
+pub fn input(call_kind: CallKind, open: u32, items: usize) -> Result<Vec<u8>, String> {
     let mut run = Run::new()?;
-    let setup = texts::assemble_body(SETUP)?;
+    let setup = texts::assemble_body(setup(call_kind))?;
     let release = texts::assemble_body("release")?;
     let clear = texts::assemble_body("clear leg 1 cause 16")?;
     let mut life = Vec::new();
     for item in LIFE {
-        life.push(texts::assemble_body(item)?);
+        life.push(item_for(call_kind, texts::assemble_body(item)?));
     }
     for call in 0..open {
         run.feed(&setup, call);
@@ -102,6 +136,9 @@ pub fn input(open: u32, items: usize) -> Result<Vec<u8>, String> {
     Ok(run.bytes)
 }
 
+/// An item without time and call.
+type KindAndBody = (u8, Vec<u8>);
+
 /// The input so far, and the table that it leaves.
 struct Run {
     profile: Vec<u8>,
@@ -122,7 +159,7 @@ impl Run {
     }
 
     /// True if the call is over by the item of this kind and body.
-    fn feed(&mut self, (kind, body): &(u8, Vec<u8>), call: u32) -> bool {
+    fn feed(&mut self, (kind, body): &KindAndBody, call: u32) -> bool {
         let item = write_item(*kind, call, self.time, body);
         self.bytes.extend(&item);
         let answer = table::feed_sound(&mut self.table, &item, &self.profile);
@@ -247,7 +284,7 @@ fn measure_listings(programs: &[Program], file: &Path, extent: &Extent) -> io::R
     SPEED.print_head(["listing: open calls", "items"], programs)?;
     for open in OPEN {
         for items in [extent.listing_items / 4, extent.listing_items] {
-            let input = input(open, items).map_err(io::Error::other)?;
+            let input = input(CallKind::Originating, open, items).map_err(io::Error::other)?;
             let items = item_count(&input);
             fs::write(file, &input)?;
             let mut best = vec![Duration::MAX; programs.len()];
@@ -274,9 +311,10 @@ fn item_count(input: &[u8]) -> u32 {
 fn measure_feeding(programs: &[Program], file: &Path, extent: &Extent) -> io::Result<()> {
     print("")?;
     TIME.print_head(["function", "open calls"], programs)?;
-    for (function, name) in FUNCTIONS {
+    let feedings = feedings_known_to(programs, file)?;
+    for &(function, call_kind, name) in &feedings {
         for open in OPEN {
-            let round = input(open, ROUND_ITEMS).map_err(io::Error::other)?;
+            let round = round(call_kind, open)?;
             let feeding = Repeated {
                 function: Some(function),
                 name,
@@ -287,7 +325,35 @@ fn measure_feeding(programs: &[Program], file: &Path, extent: &Extent) -> io::Re
             TIME.print_row(name, open, &measured.nanoseconds)?;
         }
     }
+    if feedings.len() < FEEDINGS.len() {
+        print("")?;
+        print("Terminating calls were not measured: the other checkout does not know them.")?;
+    }
     Ok(())
+}
+
+fn round(call_kind: CallKind, open: u32) -> io::Result<Vec<u8>> {
+    input(call_kind, open, ROUND_ITEMS).map_err(io::Error::other)
+}
+
+/// All of them; but another checkout may be from before terminating calls, and
+/// then nothing is held to it with them.
+fn feedings_known_to(
+    programs: &[Program],
+    file: &Path,
+) -> io::Result<Vec<(u8, CallKind, &'static str)>> {
+    let mut feedings = FEEDINGS.to_vec();
+    let round = round(CallKind::Terminating, OPEN[0])?;
+    let input = rounds::write(FEED, item_count(&round), &round);
+    let expected = feed_items(&input).map_err(io::Error::other)?;
+    fs::write(file, &input)?;
+    for program in programs.iter().filter(|program| program.is_before()) {
+        let (_, said) = program.time(file, Stdio::piped())?;
+        if said != expected {
+            feedings.retain(|(_, call_kind, _)| *call_kind == CallKind::Originating);
+        }
+    }
+    Ok(feedings)
 }
 
 /// Nanoseconds a trigger check, and digit pairs, with T-03's long list: the
@@ -331,10 +397,13 @@ fn count_instructions(listings: &[Program], feeders: &[Program], file: &Path) ->
         return print(&format!("Instructions were not counted: {error}"));
     }
     INSTRUCTIONS.print_head(["program or function", "open calls"], listings)?;
-    let feeding = FUNCTIONS.map(|(function, name)| (Some(function), name, feeders));
-    for (function, name, programs) in [(None, "listing", listings)].into_iter().chain(feeding) {
+    let listing = (None, CallKind::Originating, "listing", listings);
+    let feedings = feedings_known_to(feeders, file)?.into_iter();
+    let feedings =
+        feedings.map(|(function, call_kind, name)| (Some(function), call_kind, name, feeders));
+    for (function, call_kind, name, programs) in iter::once(listing).chain(feedings) {
         for open in OPEN {
-            let round = input(open, ROUND_ITEMS).map_err(io::Error::other)?;
+            let round = round(call_kind, open)?;
             let work = Repeated {
                 function,
                 name,

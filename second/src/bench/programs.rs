@@ -13,6 +13,8 @@ const VALGRIND: &str = "valgrind";
 /// The sum stands among callgrind's messages, so nothing else is kept.
 const COUNTING: [&str; 2] = ["--tool=callgrind", "--callgrind-out-file=/dev/null"];
 
+const BEFORE: &str = "before";
+
 pub struct Program {
     /// What the tables call it.
     pub name: &'static str,
@@ -29,7 +31,7 @@ pub fn with_task(
 ) -> io::Result<Vec<Program>> {
     let name = before.as_ref().map_or("proved", |_| "after");
     let mut named = vec![(name, PathBuf::from(proved))];
-    named.extend(before.map(|path| ("before", path)));
+    named.extend(before.map(|path| (BEFORE, path)));
     let mut programs = Vec::new();
     for (name, path) in named {
         try_to_start(&path)?;
@@ -67,6 +69,11 @@ pub fn try_to_count() -> io::Result<()> {
 }
 
 impl Program {
+    /// Whether it is that of another checkout.
+    pub fn is_before(&self) -> bool {
+        self.name == BEFORE
+    }
+
     /// How long it takes for the input, and what it says.
     pub fn time(&self, input: &Path, stdout: Stdio) -> io::Result<(Duration, String)> {
         let mut command = Command::new(&self.path);

@@ -16,7 +16,7 @@ pub fn description(chart: &Chart) -> String {
 
 fn ladder_sentences(ladder: &Ladder) -> Vec<String> {
     let number = |row: usize| ladder.rows[row].number;
-    let mut sentences = vec![format!("Call {}.", ladder.call)];
+    let mut sentences = vec![format!("{}.", ladder.title)];
     sentences.extend(ladder.rows.iter().map(row_sentence));
     for hold in &ladder.holds {
         let (from, held) = (number(hold.from), words::hold(hold.value));

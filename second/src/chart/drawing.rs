@@ -21,8 +21,7 @@ use crate::paper::record::Relationship;
 /// Says where it ends.
 pub fn draw_ladder(svg: &mut Svg, columns: &Columns, ladder: &Ladder, top: i32) -> i32 {
     let y = top + 24;
-    let title = format!("Call {}", ladder.call);
-    svg.text(&HEADING, Anchor::Start, (MARGIN, y), &title);
+    svg.text(&HEADING, Anchor::Start, (MARGIN, y), &ladder.title);
     let heads = y + 10;
     let rows = place_rows(columns, &ladder.rows, heads + HEAD_HEIGHT + 4);
     let bottom = rows.last().map_or(heads, |row| row.bottom) + 8;

@@ -4,8 +4,8 @@
 use super::play::{End, Played, Step};
 use super::words::{self, Label};
 use crate::paper::answer::{Accepted, Refusal};
-use crate::paper::forms::{kind, read_item, read_profile, Leg, Tenths};
-use crate::paper::record::{Mode, Point, Record, Relationship};
+use crate::paper::forms::{kind, read_item, read_profile, Body, CallKind, Leg, Tenths};
+use crate::paper::record::{Mode, Part, Point, Record, Relationship};
 use crate::texts::Group;
 use std::collections::BTreeSet;
 
@@ -19,6 +19,8 @@ pub struct Chart<'a> {
     pub title: &'a str,
     /// The profile in words, or that it is refused.
     pub profile: String,
+    /// The kinds of call that Setups ask for.
+    pub call_kinds: Vec<CallKind>,
     /// One for each call, in the order of their first items.
     pub ladders: Vec<Ladder>,
     pub calls_left_out: usize,
@@ -37,7 +39,7 @@ pub struct Stray<'a> {
 }
 
 pub struct Ladder {
-    pub call: u32,
+    pub title: String,
     pub rows: Vec<Row>,
     /// When the call is open.
     pub open: Vec<Run<()>>,
@@ -201,12 +203,16 @@ impl<'a> Chart<'a> {
             step,
             expected: expected_of(step, differences),
         });
+        let call_kinds = call_kinds(steps.iter().filter_map(call_kind_of_setup));
         Chart {
             title: played.title.as_deref().unwrap_or("A scenario"),
             profile: match read_profile(&played.profile) {
-                Some(profile) => format!("Profile: {}", words::profile(&profile)),
+                Some(profile) => {
+                    format!("Profile: {}", words::profile(&profile, &call_kinds))
+                }
                 None => format!("Profile: {}.", words::refusal(Refusal::ProfileMalformed)),
             },
+            call_kinds,
             ladders: calls
                 .iter()
                 .map(|call| Ladder::of(*call, steps, differences))
@@ -222,6 +228,20 @@ impl<'a> Chart<'a> {
     pub fn has_marks(&self) -> bool {
         let mut rows = self.ladders.iter().flat_map(|ladder| &ladder.rows);
         rows.any(|row| row.expected.is_some())
+    }
+}
+
+/// Those that occur, in their order.
+fn call_kinds(occurring: impl Iterator<Item = CallKind>) -> Vec<CallKind> {
+    let occurring: Vec<CallKind> = occurring.collect();
+    let kinds = CallKind::BOTH.into_iter();
+    kinds.filter(|kind| occurring.contains(kind)).collect()
+}
+
+fn call_kind_of_setup(step: &Step) -> Option<CallKind> {
+    match read_item(&step.bytes)?.body {
+        Body::Setup(setup) => Some(setup.call_kind),
+        Body::Other(_) => None,
     }
 }
 
@@ -255,11 +275,13 @@ impl Ladder {
             let is_present = move |record: Record| record.is_present(leg).then_some(());
             runs(steps.iter().map(|step| step.record.and_then(is_present)))
         };
+        let records = steps.iter().filter_map(|step| step.record);
+        let call_kinds = call_kinds(records.map(|record| record.call_kind));
         Ladder {
-            call,
+            title: words::call(call, &call_kinds),
             rows: rows(&steps, differences),
             open: runs(steps.iter().map(|step| step.record.map(|_| ()))),
-            holds: runs(steps.iter().map(|step| step.record?.hold)),
+            holds: runs(steps.iter().map(|step| step.record?.hold_point())),
             relationships: runs(steps.iter().map(relationship)),
             legs: Leg::BOTH.map(present),
             charges: Leg::BOTH.map(|leg| charges(leg, &steps)).concat(),
@@ -319,7 +341,7 @@ fn arrows(step: &Step, time: Tenths) -> Vec<Arrow> {
 
 fn item_arrow(step: &Step) -> Arrow {
     Arrow {
-        from: sender(&step.bytes),
+        from: sender(step),
         to: Party::Switch,
         form: match step.answer {
             Ok(_) => Form::Full,
@@ -332,17 +354,29 @@ fn item_arrow(step: &Step) -> Arrow {
     }
 }
 
-/// Where an item comes from: its kind says it, and of a Clear the leg.
-fn sender(item: &[u8]) -> Party {
-    let field = |place: usize| item.get(place).copied().unwrap_or(0);
+/// Where an item comes from: its kind says it, of a Clear the leg, and of what
+/// is either party's the kind of call.
+fn sender(step: &Step) -> Party {
+    let field = |place: usize| step.bytes.get(place).copied().unwrap_or(0);
     match field(3) {
-        kind::SETUP | kind::MID_CALL | kind::MOVED => Party::Caller,
+        kind::SETUP | kind::TERMINATING_SETUP => Party::Caller,
+        kind::MID_CALL => party_of(Part::MidCall, step),
+        kind::MOVED => party_of(Part::Moved, step),
         kind::CLEAR if field(14) == Leg::Two.number() => Party::Called,
         kind::CLEAR => Party::Caller,
         kind::PERIOD_OVER => Party::Switch,
         kind::ROUTE_FAILURE..=kind::ANSWER => Party::Called,
         _ => Party::ServiceNode,
     }
+}
+
+/// Whose point it is; where no call is open, as if it were an originating one.
+fn party_of(part: Part, step: &Step) -> Party {
+    let call_kind = step
+        .record
+        .map_or(CallKind::Originating, |record| record.call_kind);
+    let point = call_kind.point(part);
+    point.map_or(Party::Caller, |point| Party::of_leg(point.leg))
 }
 
 /// Reports in their order, then the routing.

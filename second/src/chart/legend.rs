@@ -1,13 +1,14 @@
 //! What the signs mean.
 
-use super::ladder::Form;
+use super::ladder::{Chart, Form};
 use super::layout::{Columns, MARGIN, STRIP_WIDTH};
 use super::signs::{draw_break, draw_hold, draw_point, draw_shaft, draw_strip};
 use super::svg::{Anchor, Spot, Svg, DIFFERS_BOX, SMALL};
+use crate::paper::forms::CallKind;
 
 /// Two columns of signs, and how to read the figures; says where it ends. The
 /// mark of a difference is among them only if the ladders have one.
-pub fn draw_legend(svg: &mut Svg, columns: &Columns, has_marks: bool, top: i32) -> i32 {
+pub fn draw_legend(svg: &mut Svg, columns: &Columns, chart: &Chart, top: i32) -> i32 {
     const STEP: i32 = 28;
     const HALF: i32 = 11;
     type Sample = fn(&mut Svg, Spot);
@@ -68,14 +69,25 @@ pub fn draw_legend(svg: &mut Svg, columns: &Columns, has_marks: bool, top: i32) 
     for (place, sample) in SAMPLES.into_iter().enumerate() {
         draw_sample(place / half, place % half, sample);
     }
+    let has_marks = chart.has_marks();
     if has_marks {
         draw_sample(0, half, DIFFERENCE);
     }
     let rows = half + usize::from(has_marks);
     let y = top + 24 + rows as i32 * STEP + 4;
-    let figures = "9/2 is detection point 9 of leg 2. Times and periods count tenths of a second.";
-    svg.text(&SMALL, Anchor::Start, (MARGIN, y), figures);
+    let point = sample_point(chart);
+    let figures = format!("{point} Times and periods count tenths of a second.");
+    svg.text(&SMALL, Anchor::Start, (MARGIN, y), &figures);
     y
+}
+
+/// How a point is read that the chart's calls can meet.
+fn sample_point(chart: &Chart) -> String {
+    let number = match chart.call_kinds[..] {
+        [CallKind::Terminating] => 17,
+        _ => 9,
+    };
+    format!("{number}/2 is detection point {number} of leg 2.")
 }
 
 fn sample_arrow(svg: &mut Svg, form: Form, (x, y): Spot) {

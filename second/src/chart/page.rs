@@ -27,7 +27,7 @@ pub fn draw(chart: &Chart) -> String {
         y = draw_lines(&mut svg, &DIFFERS, &columns, difference, y + 10);
     }
     if !chart.ladders.is_empty() {
-        y = draw_legend(&mut svg, &columns, chart.has_marks(), y + 22);
+        y = draw_legend(&mut svg, &columns, chart, y + 22);
     }
     let description = description(chart);
     svg.picture(columns.width, y + MARGIN, chart.title, &description)

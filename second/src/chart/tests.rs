@@ -5,11 +5,12 @@ use super::ladder::{Charge, Chart, Form, Ladder, Party, Row, Run, CALLS};
 use super::page;
 use super::play::{Cause, Played};
 use super::svg::{Font, FONTS, SPACE};
+use super::words;
 use crate::compare::generate;
 use crate::compare::list::answered_in;
-use crate::paper::forms::{Leg, Tenths};
+use crate::paper::forms::{CallKind, Leg, Tenths};
 use crate::paper::listing;
-use crate::paper::record::{Point, Relationship};
+use crate::paper::record::{Part, Point, Relationship};
 use crate::texts::{self, Scenario};
 
 /// The scenario that the README shows.
@@ -63,9 +64,13 @@ fn run<T>(value: T, from: usize, to: Option<usize>) -> Run<T> {
     Run { value, from, to }
 }
 
+fn point(number: u8, leg: Leg) -> Point {
+    Point { number, leg }
+}
+
 /// Each arrow of a row in short.
 fn arrows(row: &Row) -> Vec<(Party, Party, Form, String)> {
-    let label = |label: &super::words::Label| {
+    let label = |label: &words::Label| {
         let details = label.details.join(", ");
         format!("{} {details}", label.name).trim_end().to_string()
     };
@@ -113,8 +118,8 @@ fn prepaid_notes() {
 #[test]
 fn prepaid_holds() {
     let expected = [
-        run(Point::CollectedInfo, 0, Some(3)),
-        run(Point::Disconnect1, 10, Some(11)),
+        run(point(2, Leg::One), 0, Some(3)),
+        run(point(9, Leg::One), 10, Some(11)),
     ];
     assert_eq!(ladder(PREPAID).holds, expected);
 }
@@ -203,12 +208,111 @@ fn legs_and_holds_of_a_follow_on_call() {
     assert_eq!(ladder.legs[0], [run((), 0, Some(8))]);
     assert_eq!(ladder.legs[1], [run((), 0, Some(3)), run((), 5, Some(7))]);
     let expected = [
-        run(Point::CollectedInfo, 0, Some(2)),
-        run(Point::Busy, 3, Some(5)),
-        run(Point::Disconnect2, 7, Some(8)),
-        run(Point::Disconnect1, 8, None),
+        run(point(2, Leg::One), 0, Some(2)),
+        run(point(5, Leg::Two), 3, Some(5)),
+        run(point(9, Leg::Two), 7, Some(8)),
+        run(point(9, Leg::One), 8, None),
     ];
     assert_eq!(ladder.holds, expected);
+}
+
+/// In a terminating call Mid-call and Moved come from the called party, and the
+/// points have their own names.
+#[test]
+fn terminating_call() {
+    let ladder = ladder(
+        "profile continue 60
+        0 call 1 terminating-setup 4/49151 service 17
+        0 call 1 request-report 16/2 interrupted, 51/2 notify, 5/2 notify
+        0 call 1 request-report 16/2 interrupted, 51/2 notify
+        0 call 1 continue
+        10 call 1 seized
+        20 call 1 moved
+        30 call 1 answer
+        40 call 1 mid-call digit 5",
+    );
+    assert_eq!(ladder.title, "Call 1, terminating");
+    let setup = "Terminating setup to 49151, nature 4, service 17";
+    let initial = "InitialDP 12/1 Terminating_Attempt_Authorised: interrupts";
+    let from = |party, label: &str| (party, Party::Switch, Form::Full, label.to_string());
+    let report = |form, label: &str| (Party::Switch, Party::ServiceNode, form, label.to_string());
+    assert_eq!(
+        arrows(&ladder.rows[0]),
+        [from(Party::Caller, setup), report(Form::Full, initial)]
+    );
+    assert_eq!(
+        arrows(&ladder.rows[1])[0].3,
+        "RequestReportBCSMEvent 16/2 T_Mid_Call: interrupt, \
+         51/2 T_Change_Of_Position: notify, 5/2 Busy: notify"
+    );
+    assert_eq!(
+        arrows(&ladder.rows[5]),
+        [
+            from(Party::Called, "Moved"),
+            report(
+                Form::Notification,
+                "EventReportBCSM 51/2 T_Change_Of_Position: notifies"
+            )
+        ]
+    );
+    assert_eq!(
+        arrows(&ladder.rows[7]),
+        [
+            from(Party::Called, "Mid-call digit 5"),
+            report(Form::Full, "EventReportBCSM 16/2 T_Mid_Call: interrupts")
+        ]
+    );
+    let expected = [
+        run(point(12, Leg::One), 0, Some(3)),
+        run(point(16, Leg::Two), 7, None),
+    ];
+    assert_eq!(ladder.holds, expected);
+}
+
+/// Every point that a call can have has a name.
+#[test]
+fn names_of_points() {
+    for call_kind in CallKind::BOTH {
+        let parts = Part::ALL.into_iter();
+        let points = parts.filter_map(|part| call_kind.point(part));
+        for point in points.chain([call_kind.trigger()]) {
+            assert_ne!(words::point_name(point), "unknown", "{point:?}");
+        }
+    }
+}
+
+/// Only services trigger a terminating call; the profile says so where one is
+/// set up.
+#[test]
+fn profile_for_both_kinds_of_call() {
+    let profile = "profile continue 60 enabling 4/491 service 17 forwarding inhibiting";
+    let originating = "0 call 1 setup 4/491 service 17";
+    let terminating = "0 call 2 terminating-setup 4/491 service 17";
+    let criteria = "triggers if its number begins with 491 (nature 4), and its service is 17, \
+                    and it is not forwarded.";
+    let service = "A terminating call triggers if its service is 17.";
+    for (text, expected) in [
+        (
+            format!("{profile}\n{originating}"),
+            format!("A call {criteria}"),
+        ),
+        (format!("{profile}\n{terminating}"), service.to_string()),
+        (
+            format!("{profile}\n{originating}\n{terminating}"),
+            format!("An originating call {criteria} {service}"),
+        ),
+        (
+            format!("profile continue 60\n{terminating}"),
+            "Every terminating call triggers.".to_string(),
+        ),
+    ] {
+        let played = played(&text);
+        let said = Chart::of(&played, &[]).profile;
+        assert!(
+            said.starts_with(&format!("Profile: {expected} If ")),
+            "{said}"
+        );
+    }
 }
 
 /// A charge that an abort drops has no figure, and one that is never reported
@@ -244,10 +348,10 @@ fn ladders_of_two_calls() {
     );
     let ladders = Chart::of(&played, &[]).ladders;
     let numbers = |ladder: &Ladder| ladder.rows.iter().map(|row| row.number).collect::<Vec<_>>();
-    assert_eq!(ladders[0].call, 9);
+    assert_eq!(ladders[0].title, "Call 9");
     assert_eq!(numbers(&ladders[0]), [1, 3, 5]);
     assert!(ladders[0].charges.is_empty());
-    assert_eq!(ladders[1].call, 2);
+    assert_eq!(ladders[1].title, "Call 2");
     assert_eq!(numbers(&ladders[1]), [2, 4]);
 }
 
@@ -343,6 +447,8 @@ fn texts_to_draw() -> Vec<String> {
         0 call 4294967295 apply-charging leg 2 period 863999
         1 call 4294967295 connect {numbers}
         4 call 4294967295 answer
+        4 call 4294967294 terminating-setup {numbers} service 255 forwarded
+        4 call 4294967294 request-report 51/2 transparent timer 65535, 27/2 interrupted
         -- {}
         281474976710651 call 4294967295 period-over leg 3
         281474976710651 call 4294967295 period-over leg 1

@@ -2,7 +2,7 @@
 
 use crate::paper::answer::Refusal;
 use crate::paper::forms::{
-    Body, Entry, Event, Handling, Number, Operation, Other, Profile, Sense, Setup, Tenths,
+    Body, CallKind, Entry, Event, Handling, Number, Operation, Other, Profile, Sense, Setup, Tenths,
 };
 use crate::paper::record::{CalledNumber, Mode, Point, Relationship};
 use crate::texts::digit_character;
@@ -80,7 +80,11 @@ fn setup(setup: &Setup) -> Label {
         setup.number.nature, setup.service
     );
     let number = format!("to {}", digits(setup.number.digits));
-    Label::new("Setup", vec![number, criteria])
+    let name = match setup.call_kind {
+        CallKind::Originating => "Setup",
+        CallKind::Terminating => "Terminating setup",
+    };
+    Label::new(name, vec![number, criteria])
 }
 
 fn event(event: &Event) -> Label {
@@ -125,10 +129,7 @@ fn operation(operation: &Operation) -> Label {
 }
 
 fn entry(entry: &Entry) -> String {
-    let is_named =
-        |point: &Point| point.number() == entry.point && point.leg().number() == entry.leg;
-    let name = Point::ARMABLE.into_iter().find(is_named).map(point_name);
-    let name = name.unwrap_or("unknown");
+    let name = named_point(entry).map_or("unknown", point_name);
     let mode = match entry.mode {
         0 => "interrupt".to_string(),
         1 => "notify".to_string(),
@@ -142,6 +143,13 @@ fn entry(entry: &Entry) -> String {
     format!("{}/{} {name}: {mode}{timer}", entry.point, entry.leg)
 }
 
+/// The point that an entry names, in a call of one kind or the other; so one
+/// that is refused as the other kind's has its name too.
+fn named_point(entry: &Entry) -> Option<Point> {
+    let point = |kind: CallKind| kind.point(kind.part(entry.point, entry.leg)?);
+    CallKind::BOTH.into_iter().find_map(point)
+}
+
 /// An item that is malformed, in the text's own words.
 pub fn malformed(words: &str) -> Label {
     let (name, detail) = words.split_once(' ').unwrap_or((words, ""));
@@ -149,15 +157,16 @@ pub fn malformed(words: &str) -> Label {
 }
 
 pub fn event_report(point: Point, mode: Mode) -> Label {
-    let name = match point {
-        Point::CollectedInfo => "InitialDP",
-        _ => "EventReportBCSM",
+    let is_trigger = CallKind::BOTH.iter().any(|kind| kind.trigger() == point);
+    let name = match is_trigger {
+        true => "InitialDP",
+        false => "EventReportBCSM",
     };
     let mode = match mode {
         Mode::Interrupted => "interrupts",
         Mode::Notify => "notifies",
     };
-    let (number, leg) = (point.number(), point.leg().number());
+    let (number, leg) = (point.number, point.leg.number());
     let detail = format!("{number}/{leg} {}: {mode}", point_name(point));
     Label::new(name, vec![detail])
 }
@@ -177,23 +186,38 @@ pub fn routing(called: Option<&CalledNumber>, time: Tenths, deadline: Tenths) ->
     Label::new("Routing", number.into_iter().chain([deadline]).collect())
 }
 
+/// The points of an originating call, and then those of a terminating one.
+const POINT_NAMES: [(u8, &str); 19] = [
+    (2, "Collected_Info"),
+    (4, "Route failure"),
+    (5, "Busy"),
+    (6, "No answer"),
+    (7, "Answer"),
+    (8, "Mid-call"),
+    (9, "Disconnect"),
+    (10, "Abandon"),
+    (19, "Seized"),
+    (50, "Moved"),
+    (12, "Terminating_Attempt_Authorised"),
+    (13, "T_Busy"),
+    (14, "T_No_Answer"),
+    (15, "T_Answer"),
+    (16, "T_Mid_Call"),
+    (17, "T_Disconnect"),
+    (18, "T_Abandon"),
+    (27, "Call_Accepted"),
+    (51, "T_Change_Of_Position"),
+];
+
 pub fn point_name(point: Point) -> &'static str {
-    match point {
-        Point::CollectedInfo => "Collected_Info",
-        Point::MidCall => "Mid-call",
-        Point::Disconnect1 | Point::Disconnect2 => "Disconnect",
-        Point::Abandon => "Abandon",
-        Point::Moved => "Moved",
-        Point::RouteFailure => "Route failure",
-        Point::Busy => "Busy",
-        Point::NoAnswer => "No answer",
-        Point::Answer => "Answer",
-        Point::Seized => "Seized",
-    }
+    let row = POINT_NAMES
+        .iter()
+        .find(|(number, _)| *number == point.number);
+    row.map_or("unknown", |(_, name)| name)
 }
 
 pub fn hold(point: Point) -> String {
-    format!("held at {}", point.number())
+    format!("held at {}", point.number)
 }
 
 pub fn relationship(relationship: Relationship) -> &'static str {
@@ -230,19 +254,35 @@ pub fn refusal(refusal: Refusal) -> String {
     format!("refused {}: {reason}", refusal as u8)
 }
 
-/// The profile as sentences.
-pub fn profile(profile: &Profile) -> String {
+/// The heading of a call that was of these kinds, one after the other.
+pub fn call(call: u32, call_kinds: &[CallKind]) -> String {
+    match call_kinds {
+        [CallKind::Terminating] => format!("Call {call}, terminating"),
+        _ => format!("Call {call}"),
+    }
+}
+
+/// The profile as sentences, for these kinds of call.
+pub fn profile(profile: &Profile, call_kinds: &[CallKind]) -> String {
     let handling = match profile.default_handling {
         Handling::Continue => "If the service node aborts, the call goes on.",
         Handling::Release => "If the service node aborts, the call is released.",
     };
     let timer = profile.default_timer.0;
-    let triggers = triggering(profile);
+    let triggers = match call_kinds {
+        [] | [CallKind::Originating] => originating_triggers(profile, ["A call", "call"]),
+        [CallKind::Terminating] => terminating_triggers(profile),
+        _ => format!(
+            "{}. {}",
+            originating_triggers(profile, ["An originating call", "originating call"]),
+            terminating_triggers(profile)
+        ),
+    };
     format!("{triggers}. {handling} The default no-answer timer is {timer} s.")
 }
 
 /// All criteria must hold; an inhibiting one reads best as an exception.
-fn triggering(profile: &Profile) -> String {
+fn originating_triggers(profile: &Profile, names: [&str; 2]) -> String {
     let number = number_criteria(profile);
     let mut conditions = Vec::new();
     let mut exception = String::new();
@@ -251,22 +291,32 @@ fn triggering(profile: &Profile) -> String {
         Sense::Enabling => conditions.push(number),
         Sense::Inhibiting => exception = format!(", unless {number}"),
     }
-    if !profile.services.is_empty() {
-        let services: Vec<String> = profile.services.iter().map(u8::to_string).collect();
-        conditions.push(format!("its service is {}", services.join(" or ")));
-    }
+    conditions.extend(service_criterion(profile));
     match profile.forwarding {
         Sense::Absent => {}
         Sense::Enabling => conditions.push("it is forwarded".to_string()),
         Sense::Inhibiting => conditions.push("it is not forwarded".to_string()),
     }
+    format!("{}{exception}", triggers_if(names, &conditions))
+}
+
+fn terminating_triggers(profile: &Profile) -> String {
+    let names = ["A terminating call", "terminating call"];
+    let conditions: Vec<String> = service_criterion(profile).into_iter().collect();
+    triggers_if(names, &conditions)
+}
+
+/// Such a call is named with its article, and without it.
+fn triggers_if([one, every]: [&str; 2], conditions: &[String]) -> String {
     match conditions.is_empty() {
-        true => format!("Every call triggers{exception}"),
-        false => format!(
-            "A call triggers if {}{exception}",
-            conditions.join(", and ")
-        ),
+        true => format!("Every {every} triggers"),
+        false => format!("{one} triggers if {}", conditions.join(", and ")),
     }
+}
+
+fn service_criterion(profile: &Profile) -> Option<String> {
+    let services: Vec<String> = profile.services.iter().map(u8::to_string).collect();
+    (!services.is_empty()).then(|| format!("its service is {}", services.join(" or ")))
 }
 
 fn number_criteria(profile: &Profile) -> String {

@@ -16,6 +16,7 @@ use crate::compare::{
 };
 use crate::nearest::nearest;
 use crate::output;
+use crate::paper::forms::CallKind;
 use crate::paper::listing;
 use crate::texts::{self, Line};
 use arguments::Takes::{Choice, Maybe, One, Several};
@@ -82,7 +83,14 @@ const BEFORE: arguments::Choice = arguments::Choice {
     name: "--before",
     value: Some(file("DIR")),
     does: "measures the programs of another checkout too, in turn with these: \
-        DIR/target/bin/listing and DIR/target/bin/bench, which are built already",
+        DIR/target/bin/listing and DIR/target/bin/bench, which are built already; if \
+        they do not know terminating calls, these are left out",
+};
+
+const TERMINATING: arguments::Choice = arguments::Choice {
+    name: "--terminating",
+    value: None,
+    does: "the calls are terminating ones, and get the same items otherwise",
 };
 
 const GROUPS: [(&str, &[Command]); 7] = [
@@ -251,7 +259,7 @@ const GROUPS: [(&str, &[Command]); 7] = [
             },
             Command {
                 name: "bench-input",
-                takes: &[One(OPEN), One(ITEMS)],
+                takes: &[One(OPEN), One(ITEMS), Choice(TERMINATING)],
                 streams: "> BYTES",
                 does: "writes a profile and about ITEMS items of OPEN (1, 32 or 64) open \
                     calls, which are over at the end",
@@ -262,8 +270,9 @@ const GROUPS: [(&str, &[Command]); 7] = [
                 takes: &[One(LISTING), One(BENCH), Choice(BEFORE), Choice(QUICK)],
                 streams: "",
                 does: "times this program beside the proved ones: `listing` beside LISTING, \
-                    `feed-items` and `check-triggers` beside BENCH; and counts the \
-                    instructions of both, where valgrind is on the path",
+                    `feed-items`, with terminating calls too, and `check-triggers` \
+                    beside BENCH; and counts the instructions of both, where valgrind is \
+                    on the path",
                 run: bench,
             },
         ],
@@ -365,7 +374,11 @@ fn assemble(given: &Given) -> Result<Vec<Line>, String> {
 
 fn bench_input(given: &Given) -> Result<Vec<u8>, String> {
     let [open, items] = [OPEN, ITEMS].map(|argument| given.number(argument.name).unwrap_or(0));
-    measure::input(open as u32, items as usize)
+    let call_kind = match given.word(TERMINATING.name) {
+        Some(_) => CallKind::Terminating,
+        None => CallKind::Originating,
+    };
+    measure::input(call_kind, open as u32, items as usize)
 }
 
 fn bench(given: &Given) -> Result<bool, String> {

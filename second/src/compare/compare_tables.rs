@@ -1,18 +1,20 @@
 //! A program that is handed whole tables, and this one, on the same cases:
 //! sound tables with any records in range, and tables that refusal 3 is for.
 //!
-//! Document 01, section "The call table", and row 3 of "Numbered refusals".
+//! Document 01, section "The call table", and row 3 of "Numbered refusals";
+//! document 02, T-04: tables that mix both kinds of call.
 
 use crate::compare::counts::{self, Counts};
-use crate::compare::generate::Generator;
+use crate::compare::coverage::of_kind;
+use crate::compare::generate::{Generator, KINDS};
 use crate::compare::program::{Answers, Input, Program};
 use crate::compare::random::Random;
 use crate::compare::shown;
 use crate::compare::tables::{self, read_entry, Case, ENTRY_BYTES};
 use crate::output;
-use crate::paper::answer::Answer;
-use crate::paper::forms::{kind, read_item, Handling, Leg, Seconds, Tenths, TIME_END};
-use crate::paper::record::{Armings, CalledNumber, Charge, Mode, Point, Record, Stage};
+use crate::paper::answer::{Answer, Refusal};
+use crate::paper::forms::{kind, read_item, CallKind, Handling, Leg, Seconds, Tenths, TIME_END};
+use crate::paper::record::{Armings, CalledNumber, Charge, Hold, Mode, Part, Record, Stage};
 use crate::paper::table::{self, Entry, ENTRIES};
 use crate::texts;
 use std::io::Write;
@@ -31,10 +33,32 @@ const WRONG_COUNTS: [(&str, &[usize]); 5] = [
 type Damage = (&'static str, fn(&mut Random, &mut Record));
 
 /// A record that a call owns, with one field out of range.
-const OUT_OF_RANGE: [Damage; 18] = [
-    ("hold at 50", |_, record| record.hold = Some(Point::Moved)),
+const OUT_OF_RANGE: [Damage; 23] = [
+    ("hold at 50", |_, record| {
+        hold_wrongly(record, CallKind::Originating, Part::Moved)
+    }),
+    ("hold at 51", |_, record| {
+        hold_wrongly(record, CallKind::Terminating, Part::Moved)
+    }),
+    ("terminating hold at Route failure", |_, record| {
+        hold_wrongly(record, CallKind::Terminating, Part::RouteFailure)
+    }),
     ("50 armed in mode 0", |_, record| {
-        record.armings.set(Point::Moved, Some(Mode::Interrupted));
+        become_kind(record, CallKind::Originating);
+        record.armings.set(Part::Moved, Some(Mode::Interrupted));
+    }),
+    ("51 armed in mode 0", |_, record| {
+        become_kind(record, CallKind::Terminating);
+        record.armings.set(Part::Moved, Some(Mode::Interrupted));
+    }),
+    ("terminating Route failure armed in mode 0", |_, record| {
+        become_kind(record, CallKind::Terminating);
+        let mode = Some(Mode::Interrupted);
+        record.armings.set(Part::RouteFailure, mode);
+    }),
+    ("terminating Route failure armed in mode 1", |_, record| {
+        become_kind(record, CallKind::Terminating);
+        record.armings.set(Part::RouteFailure, Some(Mode::Notify));
     }),
     ("last time too late", |random, record| {
         record.last = Tenths(random.pick(&[TIME_END.0, u64::MAX]));
@@ -92,14 +116,17 @@ const OUT_OF_RANGE: [Damage; 18] = [
 ];
 
 /// A free record with one field not blank.
-const NOT_BLANK: [Damage; 14] = [
+const NOT_BLANK: [Damage; 15] = [
+    ("free and terminating", |_, record| {
+        record.call_kind = CallKind::Terminating
+    }),
     ("free with a stage", |random, record| {
         record.stage = random.pick(&[Stage::Alerting, Stage::Active]);
     }),
     ("free with leg 1", |_, record| record.present[0] = true),
     ("free with leg 2", |_, record| record.present[1] = true),
     ("free with a hold", |random, record| {
-        record.hold = Some(random.pick(&Point::ARMABLE))
+        record.hold = Some(Hold::At(random.pick(&Part::ALL)))
     }),
     ("free with a last time", |random, record| {
         record.last = Tenths(random.pick(&[1, u64::MAX]))
@@ -107,7 +134,7 @@ const NOT_BLANK: [Damage; 14] = [
     ("free with an arming", |random, record| {
         record
             .armings
-            .set(random.pick(&Point::ARMABLE), Some(random.pick(&Mode::BOTH)));
+            .set(random.pick(&Part::ALL), Some(random.pick(&Mode::BOTH)));
     }),
     ("free with leg 1's charge", |random, record| {
         pending(record, Leg::One).period = Tenths(random.below(2));
@@ -134,6 +161,25 @@ const NOT_BLANK: [Damage; 14] = [
 ];
 
 const ONE_CALL_TWICE: &str = "one call twice";
+/// So many percent of the calls are terminating.
+const EITHER_KIND: u64 = 50;
+
+/// Makes the record one of the other kind of call, if it is none, and leaves it
+/// in range.
+fn become_kind(record: &mut Record, call_kind: CallKind) {
+    record.call_kind = call_kind;
+    if call_kind == CallKind::Terminating {
+        record.armings.set(Part::RouteFailure, None);
+        record.hold = record
+            .hold
+            .filter(|hold| *hold != Hold::At(Part::RouteFailure));
+    }
+}
+
+fn hold_wrongly(record: &mut Record, call_kind: CallKind, part: Part) {
+    become_kind(record, call_kind);
+    record.hold = Some(Hold::At(part));
+}
 
 /// The charge of the leg; one is put there if none is pending.
 fn pending(record: &mut Record, leg: Leg) -> &mut Charge {
@@ -159,12 +205,9 @@ fn generate(seed: u64) -> (Case, Vec<&'static str>) {
     let mut generator = Generator::new(random, 1);
     let owned = table.iter().find(|entry| entry.owner == Some(item_call));
     let item = match owned {
-        Some(entry) if generator.random.chance(60) => {
-            generator.possible_item(item_call, &entry.record)
-        }
-        Some(entry) => generator.any_item(item_call, Some(&entry.record)),
+        Some(entry) => item_for(&mut generator, item_call, &entry.record),
         None if generator.random.chance(10) => generator.any_item(item_call, None),
-        None => generator.item(kind::SETUP, item_call, None),
+        None => generator.setup(item_call),
     };
     let item = match generator.random.below(40) {
         0 => item[..generator.random.below(item.len() as u64) as usize].to_vec(),
@@ -172,8 +215,8 @@ fn generate(seed: u64) -> (Case, Vec<&'static str>) {
         _ => item,
     };
     let damages = match generator.random.below(10) {
-        0..=5 => 0,
-        6..=8 => 1,
+        0..=7 => 0,
+        8 => 1,
         _ => 3,
     };
     let mut names = Vec::new();
@@ -188,13 +231,32 @@ fn generate(seed: u64) -> (Case, Vec<&'static str>) {
     (case, names)
 }
 
+/// Those whose own refusals are rare.
+const RARELY_REFUSED: [u8; 4] = [
+    kind::PERIOD_OVER,
+    kind::REQUEST_REPORT,
+    kind::REQUEST_REPORT,
+    kind::CONTINUE,
+];
+
+/// Often one that is possible now; else of any kind, be it rare in a scenario.
+fn item_for(generator: &mut Generator, call: u32, record: &Record) -> Vec<u8> {
+    let kind = match generator.random.below(10) {
+        0..=2 => return generator.possible_item(call, record),
+        3..=6 => generator.random.pick(&KINDS).0,
+        _ => generator.random.pick(&RARELY_REFUSED),
+    };
+    generator.item(kind, call, Some(record))
+}
+
 /// Any records in range, also such as no run reaches.
 fn sound_table(random: &mut Random) -> Vec<Entry> {
     let percent = random.pick(&[0, 5, 50, 98, 100, 100]);
+    let terminating = random.pick(&[0, 50, 50, 50, 100]);
     let mut table = table::fresh().to_vec();
     for slot in 0..ENTRIES {
         if random.chance(percent) {
-            own(random, &mut table, slot);
+            own(random, &mut table, slot, terminating);
         }
     }
     table
@@ -218,14 +280,20 @@ fn call_of_item(random: &mut Random, table: &[Entry]) -> u32 {
     }
 }
 
-fn record_in_range(random: &mut Random) -> Record {
+/// Terminating in so many percent.
+fn record_in_range(random: &mut Random, terminating: u64) -> Record {
+    let call_kind = match random.chance(terminating) {
+        true => CallKind::Terminating,
+        false => CallKind::Originating,
+    };
     let last = Tenths(random.pick(&[0, 1, 1000, 1000, 90_000_000, TIME_END.0 - 1]));
     Record {
+        call_kind,
         stage: random.pick(&Stage::ALL),
         present: [random.chance(80), random.chance(70)],
-        hold: hold_in_range(random),
+        hold: hold_in_range(random, call_kind),
         last,
-        armings: armings_in_range(random),
+        armings: armings_in_range(random, call_kind),
         charges: [(); 2].map(|()| charge_in_range(random, last)),
         kept_timer: Seconds(random.pick(&[0, 0, 1, 30, 2047])),
         default_timer: Seconds(random.pick(&[10, 120, 180])),
@@ -234,25 +302,28 @@ fn record_in_range(random: &mut Random) -> Record {
     }
 }
 
-fn hold_in_range(random: &mut Random) -> Option<Point> {
+fn hold_in_range(random: &mut Random, call_kind: CallKind) -> Option<Hold> {
     match random.below(4) {
         0 | 1 => None,
-        2 => Some(Point::CollectedInfo),
-        _ => Some(random.pick(&Point::ARMABLE)).filter(|point| *point != Point::Moved),
+        2 => Some(Hold::Trigger),
+        _ => Some(random.pick(&Part::ALL))
+            .filter(|part| call_kind.can_arm(*part, Mode::Interrupted))
+            .map(Hold::At),
     }
 }
 
-fn armings_in_range(random: &mut Random) -> Armings {
+fn armings_in_range(random: &mut Random, call_kind: CallKind) -> Armings {
     let mut armings = Armings::NONE;
     let modes = random.pick(&[&Mode::BOTH[..], &[Mode::Notify]]);
     let percent = random.pick(&[0, 10, 50, 100]);
-    for point in Point::ARMABLE {
+    for part in Part::ALL {
         if random.chance(percent) {
-            let mode = match point {
-                Point::Moved => Mode::Notify,
+            let mode = match part {
+                Part::Moved => Mode::Notify,
                 _ => random.pick(modes),
             };
-            armings.set(point, Some(mode));
+            let mode = Some(mode).filter(|mode| call_kind.can_arm(part, *mode));
+            armings.set(part, mode);
         }
     }
     armings
@@ -289,14 +360,14 @@ fn damage(random: &mut Random, table: &mut Vec<Entry>) -> &'static str {
         }
         2 => {
             let other = (slot + 1 + random.below(ENTRIES as u64 - 1) as usize) % ENTRIES;
-            own(random, table, slot);
-            own(random, table, other);
+            own(random, table, slot, EITHER_KIND);
+            own(random, table, other, EITHER_KIND);
             table[other].owner = table[slot].owner;
             ONE_CALL_TWICE
         }
         3..=12 => {
             let (name, damage) = random.pick(&OUT_OF_RANGE);
-            own(random, table, slot);
+            own(random, table, slot, EITHER_KIND);
             damage(random, &mut table[slot].record);
             name
         }
@@ -309,11 +380,12 @@ fn damage(random: &mut Random, table: &mut Vec<Entry>) -> &'static str {
     }
 }
 
-/// Gives the slot to a call, with a record in range.
-fn own(random: &mut Random, table: &mut [Entry], slot: usize) {
+/// Gives the slot to a call, terminating in so many percent, with a record in
+/// range.
+fn own(random: &mut Random, table: &mut [Entry], slot: usize, terminating: u64) {
     table[slot] = Entry {
         owner: Some(call_of_slot(slot)),
-        record: record_in_range(random),
+        record: record_in_range(random, terminating),
     };
 }
 
@@ -344,7 +416,7 @@ fn compare(answers: &mut Answers, seeds: Range<u64>) -> Result<bool, String> {
                 output::line(format_args!("damage: {damages:?}\n{difference}"))?;
             }
         }
-        counts.count(answer_form(&answer));
+        count_case(&mut counts, &before, &case.item, &answer);
         for damage in damages {
             counts.count(damage.to_string());
         }
@@ -368,23 +440,92 @@ fn read_answer(answers: &mut Answers, number: u64, entries: usize) -> Result<Vec
     Ok(bytes)
 }
 
-/// All the answers and all kinds of damage have to come up.
+/// All the answers have to come up, those of an open call for both kinds of
+/// call, all mixtures of both, all kinds of damage; and items of all kinds for
+/// records of both that no run reaches.
 fn wanted() -> Vec<(&'static str, Vec<String>)> {
-    let refusals = (1..=14).map(|number| format!("refused {number}"));
-    let answers = ["ok".to_string()].into_iter().chain(refusals);
+    let answers = [1, 2, 3, 4, 6].map(refusal_form).into_iter();
+    let of_open = [ACCEPTED.to_string()].into_iter();
+    let of_open = of_open.chain([5].into_iter().chain(7..=14).map(refusal_form));
+    let of_open = of_open.flat_map(|form| CallKind::BOTH.map(|kind| of_kind(kind, &form)));
+    let unreached = CallKind::BOTH.into_iter();
+    let unreached =
+        unreached.flat_map(|call_kind| KINDS.map(|(kind, _)| unreached_form(call_kind, kind)));
     let wrong_counts = WRONG_COUNTS.iter().map(|(name, _)| *name);
     let damages = OUT_OF_RANGE.iter().chain(&NOT_BLANK).map(|(name, _)| *name);
     let names = wrong_counts.chain(damages).chain([ONE_CALL_TWICE]);
     vec![
-        ("answers", answers.collect()),
+        ("answers", answers.chain(of_open).collect()),
+        ("sound tables", MIXTURES.map(String::from).to_vec()),
+        ("records that no run reaches", unreached.collect()),
         ("damage", names.map(String::from).collect()),
     ]
 }
 
+const ACCEPTED: &str = "ok";
+const MIXTURES: [&str; 4] = [
+    "no open calls",
+    "only originating calls",
+    "only terminating calls",
+    "both kinds of call",
+];
+
+fn refusal_form(number: u8) -> String {
+    format!("refused {number}")
+}
+
 fn answer_form(answer: &Answer) -> String {
     match answer {
-        Ok(_) => "ok".to_string(),
-        Err(refusal) => format!("refused {}", *refusal as u8),
+        Ok(_) => ACCEPTED.to_string(),
+        Err(refusal) => refusal_form(*refusal as u8),
+    }
+}
+
+fn unreached_form(call_kind: CallKind, kind: u8) -> String {
+    of_kind(call_kind, &format!("fed kind {kind}"))
+}
+
+fn mixture_form(table: &[Entry]) -> &'static str {
+    let has = |kind: CallKind| {
+        let mut open = table.iter().filter(|entry| entry.owner.is_some());
+        open.any(|entry| entry.record.call_kind == kind)
+    };
+    let [originating, terminating] = CallKind::BOTH.map(has);
+    MIXTURES[usize::from(originating) + 2 * usize::from(terminating)]
+}
+
+/// The answer by the call's kind, if it is open; and what the table was, if it
+/// was sound and the item was read.
+fn count_case(counts: &mut Counts, table: &[Entry], item: &[u8], answer: &Answer) {
+    let early = [
+        Refusal::ItemMalformed,
+        Refusal::ProfileMalformed,
+        Refusal::TableUnsound,
+    ];
+    if answer.is_err_and(|refusal| early.contains(&refusal)) {
+        return counts.count(answer_form(answer));
+    }
+    counts.count(mixture_form(table).to_string());
+    let call = read_item(item).map(|item| item.call);
+    let open = table.iter().find(|entry| entry.owner == call);
+    let Some(record) = open.map(|entry| &entry.record) else {
+        return counts.count(answer_form(answer));
+    };
+    counts.count(of_kind(record.call_kind, &answer_form(answer)));
+    if no_run_reaches(record) {
+        counts.count(unreached_form(record.call_kind, item[3]));
+    }
+}
+
+/// A sure sign of it: legs or a stage that do not go with the hold.
+fn no_run_reaches(record: &Record) -> bool {
+    let both = record.present == [true; 2];
+    match record.hold {
+        None => !both,
+        Some(Hold::Trigger) => !both || record.stage != Stage::Analysing,
+        // Only a point that ends its leg can be met while the call stays held.
+        Some(Hold::At(Part::MidCall | Part::Answer | Part::Seized)) => !both,
+        Some(Hold::At(_)) => both,
     }
 }
 

@@ -3,12 +3,15 @@
 
 use crate::compare::counts::{self, Counts};
 use crate::compare::generate;
-use crate::paper::answer::Accepted;
-use crate::paper::call::{occurs_at, point_met};
-use crate::paper::forms::{read_item, read_profile, Body, Other};
+use crate::paper::answer::{Accepted, Answer, Refusal};
+use crate::paper::call::{occurs_at, part_met};
+use crate::paper::forms::{
+    kind, read_item, read_profile, Body, CallKind, Event, Operation, Other, Profile, Setup,
+};
 use crate::paper::listing::frames;
-use crate::paper::record::{Mode, Point, Record, Relationship, Stage};
-use crate::paper::table;
+use crate::paper::record::{Mode, Part, Point, Record, Relationship, Stage};
+use crate::paper::table::{self, Entry};
+use crate::paper::trigger::triggers;
 use crate::texts;
 use std::ops::Range;
 
@@ -35,72 +38,191 @@ pub fn run(seeds: Range<u64>) -> Result<bool, String> {
     counts::conclude(&format!("{count} scenarios, {items} items"), missing)
 }
 
-/// The forms that have to be reached, in groups, by the rules of document 01.
+/// The forms that have to be reached, in groups, by the rules of document 01
+/// and T-04 of document 02.
 pub fn wanted() -> Vec<(&'static str, Vec<String>)> {
-    let refusals = (1..=14).filter(|number| *number != 3).map(refusal_form);
-    let mut reports = vec![report_form(Point::CollectedInfo, Mode::Interrupted)];
-    let mut holds = vec![
-        relationship_form(Relationship::None, None),
-        relationship_form(Relationship::Monitor, None),
-        relationship_form(Relationship::Control, None),
-        relationship_form(Relationship::Control, Some(Point::CollectedInfo)),
-    ];
-    let mut events = Vec::new();
-    for point in Point::ARMABLE {
-        for mode in MODES.into_iter().filter(|mode| may_have_mode(point, *mode)) {
-            reports.extend(mode.map(|mode| report_form(point, mode)));
-            for stage in Stage::ALL {
-                events.extend(event_forms(point, mode, stage));
-            }
-        }
-        if point != Point::Moved {
-            holds.push(relationship_form(Relationship::Control, Some(point)));
-        }
-    }
-    let further = ["c1", "c2", "event c1 c2", "deadline", "over", "64 open"];
-    let operations = OPERATIONS
-        .iter()
-        .flat_map(|name| Stage::ALL.map(|stage| operation_form(name, stage)));
+    let of_both = |forms: fn(CallKind) -> Vec<String>| {
+        let forms = CallKind::BOTH.into_iter().flat_map(forms);
+        forms.collect::<Vec<String>>()
+    };
+    let mut refusals: Vec<String> = [1, 2, 4].map(refusal_form).to_vec();
+    refusals.push(malformed_form(kind::TERMINATING_SETUP));
+    refusals.extend(of_both(wanted_refusals));
     vec![
-        ("refusals", refusals.collect()),
-        ("reports", reports),
-        ("further", further.map(String::from).to_vec()),
-        ("relationship and point of suspension", holds),
-        ("events by point, mode and stage", events),
-        ("operations by stage", operations.collect()),
+        ("refusals", refusals),
+        ("Setups", of_both(wanted_setups)),
+        ("other kind's pairs, refused 11", of_both(wanted_pairs)),
+        ("reports", of_both(wanted_reports)),
+        ("further", of_both(wanted_further)),
+        ("tables", [FULL, MIXED].map(String::from).to_vec()),
+        (
+            "relationship and point of suspension",
+            of_both(wanted_holds),
+        ),
+        ("events by point, mode and stage", of_both(wanted_events)),
+        ("operations by stage", of_both(wanted_operations)),
     ]
 }
 
-/// Not held; and held, where the event is a Clear of leg 1.
-fn event_forms(point: Point, mode: Option<Mode>, stage: Stage) -> Vec<String> {
-    let mut forms = Vec::new();
-    if occurs_at(stage, point) {
-        forms.push(event_form(point, mode, stage, false));
-        if matches!(point, Point::Abandon | Point::Disconnect1) {
-            forms.push(event_form(point, mode, stage, true));
+/// Of the refusals for an open call, and for room.
+fn wanted_refusals(call_kind: CallKind) -> Vec<String> {
+    let for_setup = CallKind::BOTH.map(|setup| already_open_form(setup, call_kind));
+    let for_open = (7..=14).map(|number| of_kind(call_kind, &refusal_form(number)));
+    let for_room = of_kind(call_kind, &refusal_form(6));
+    let forms = for_setup.into_iter().chain([for_room]).chain(for_open);
+    let route_failures = match call_kind.point(Part::RouteFailure) {
+        Some(_) => vec![],
+        None => Stage::ALL.map(out_of_place_form).to_vec(),
+    };
+    forms.chain(route_failures).collect()
+}
+
+fn wanted_setups(call_kind: CallKind) -> Vec<String> {
+    let forms = [true, false].map(|triggered| setup_form(call_kind, triggered));
+    let by_services_alone = match call_kind {
+        CallKind::Originating => None,
+        CallKind::Terminating => Some(BY_SERVICES_ALONE.to_string()),
+    };
+    forms.into_iter().chain(by_services_alone).collect()
+}
+
+fn wanted_pairs(call_kind: CallKind) -> Vec<String> {
+    let others = CallKind::BOTH.into_iter().filter(|kind| *kind != call_kind);
+    let points = others.flat_map(|other| Part::ALL.map(|part| other.point(part)));
+    let points = points.flatten();
+    points
+        .map(|point| other_pair_form(call_kind, point))
+        .collect()
+}
+
+fn wanted_reports(call_kind: CallKind) -> Vec<String> {
+    let mut forms = vec![report_form(call_kind.trigger(), Mode::Interrupted)];
+    for (part, point) in points(call_kind) {
+        let modes = Mode::BOTH.into_iter().filter(|mode| part.takes(*mode));
+        forms.extend(modes.map(|mode| report_form(point, mode)));
+    }
+    forms
+}
+
+fn wanted_further(call_kind: CallKind) -> Vec<String> {
+    let forms = ["c1", "c2", "event c1 c2", "deadline", "over"];
+    forms.map(|form| of_kind(call_kind, form)).to_vec()
+}
+
+fn wanted_holds(call_kind: CallKind) -> Vec<String> {
+    let form = |relationship, hold| relationship_form(call_kind, relationship, hold);
+    let mut forms = vec![
+        form(Relationship::None, None),
+        form(Relationship::Monitor, None),
+        form(Relationship::Control, None),
+        form(Relationship::Control, Some(call_kind.trigger())),
+    ];
+    for (part, point) in points(call_kind) {
+        if part.takes(Mode::Interrupted) {
+            forms.push(form(Relationship::Control, Some(point)));
         }
     }
     forms
 }
 
-fn may_have_mode(point: Point, mode: Option<Mode>) -> bool {
-    !(point == Point::Moved && mode == Some(Mode::Interrupted))
+fn wanted_events(call_kind: CallKind) -> Vec<String> {
+    let mut forms = Vec::new();
+    for (part, point) in points(call_kind) {
+        let taken = |mode: &Option<Mode>| mode.is_none_or(|mode| part.takes(mode));
+        for mode in MODES.into_iter().filter(taken) {
+            for stage in Stage::ALL
+                .into_iter()
+                .filter(|stage| occurs_at(*stage, part))
+            {
+                forms.push(event_form(point, mode, stage, false));
+                // While held, only a Clear of leg 1 is accepted.
+                if matches!(part, Part::Abandon | Part::Disconnect1) {
+                    forms.push(event_form(point, mode, stage, true));
+                }
+            }
+        }
+    }
+    forms
+}
+
+fn wanted_operations(call_kind: CallKind) -> Vec<String> {
+    let of_stages = |name| Stage::ALL.map(|stage| operation_form(call_kind, name, stage));
+    OPERATIONS.into_iter().flat_map(of_stages).collect()
+}
+
+/// The armable points of a kind of call, with their parts.
+fn points(call_kind: CallKind) -> impl Iterator<Item = (Part, Point)> {
+    let with_point = move |part| Some((part, call_kind.point(part)?));
+    Part::ALL.into_iter().filter_map(with_point)
+}
+
+/// The table has no free slot; calls of both kinds are open.
+const FULL: &str = "64 open";
+const MIXED: &str = "both kinds open";
+
+/// A terminating call that would not be triggered as an originating one.
+const BY_SERVICES_ALONE: &str = "terminating triggered by services alone";
+
+fn kind_name(call_kind: CallKind) -> &'static str {
+    match call_kind {
+        CallKind::Originating => "originating",
+        CallKind::Terminating => "terminating",
+    }
+}
+
+pub fn of_kind(call_kind: CallKind, form: &str) -> String {
+    format!("{} {form}", kind_name(call_kind))
 }
 
 fn refusal_form(number: u8) -> String {
     format!("refused {number}")
 }
 
+fn malformed_form(kind: u8) -> String {
+    format!("kind {kind} refused 1")
+}
+
+fn already_open_form(setup: CallKind, open: CallKind) -> String {
+    let (setup, open) = (kind_name(setup), kind_name(open));
+    format!("{setup} Setup for open {open} refused 5")
+}
+
+/// Route failure for a terminating call that is not held.
+fn out_of_place_form(stage: Stage) -> String {
+    format!("terminating Route failure {stage:?} refused 12")
+}
+
+fn setup_form(call_kind: CallKind, triggered: bool) -> String {
+    let triggered = if triggered {
+        "triggered"
+    } else {
+        "not triggered"
+    };
+    of_kind(call_kind, triggered)
+}
+
+fn other_pair_form(call_kind: CallKind, point: Point) -> String {
+    of_kind(call_kind, &format!("names {}", pair(point)))
+}
+
 fn pair(point: Point) -> String {
-    format!("{}/{}", point.number(), point.leg().number())
+    format!("{}/{}", point.number, point.leg.number())
 }
 
 fn report_form(point: Point, mode: Mode) -> String {
     format!("{}{}", char::from(mode.mark()), pair(point))
 }
 
-fn relationship_form(relationship: Relationship, hold: Option<Point>) -> String {
-    format!("{relationship:?} {}", hold.map_or("-".to_string(), pair))
+/// A point says itself which kind of call has it.
+fn relationship_form(
+    call_kind: CallKind,
+    relationship: Relationship,
+    hold: Option<Point>,
+) -> String {
+    match hold {
+        Some(point) => format!("{relationship:?} {}", pair(point)),
+        None => of_kind(call_kind, &format!("{relationship:?} -")),
+    }
 }
 
 fn event_form(point: Point, mode: Option<Mode>, stage: Stage, held: bool) -> String {
@@ -109,46 +231,129 @@ fn event_form(point: Point, mode: Option<Mode>, stage: Stage, held: bool) -> Str
     format!("{} {mode} {stage:?}{held}", pair(point))
 }
 
-fn operation_form(name: &str, stage: Stage) -> String {
-    format!("{name} {stage:?}")
+fn operation_form(call_kind: CallKind, name: &str, stage: Stage) -> String {
+    of_kind(call_kind, &format!("{name} {stage:?}"))
 }
 
 /// Counts what a scenario reaches, and gives the number of its items.
 pub fn count_scenario(counts: &mut Counts, scenario: &[u8]) -> usize {
     let frames = frames(scenario);
-    let Some((profile, items)) = frames.split_first() else {
+    let Some((profile_bytes, items)) = frames.split_first() else {
         return 0;
     };
-    if read_profile(profile).is_none() {
+    let Some(profile) = read_profile(profile_bytes) else {
         counts.count(refusal_form(2));
         return 0;
-    }
+    };
     let mut table = table::fresh();
     for bytes in items {
-        let item = read_item(bytes);
-        let call = item.as_ref().map(|item| item.call);
-        let owned = table
-            .iter()
-            .find(|entry| call.is_some() && entry.owner == call);
+        let Some(item) = read_item(bytes) else {
+            count_malformed(counts, bytes);
+            continue;
+        };
+        let owned = table.iter().find(|entry| entry.owner == Some(item.call));
         let before = owned.map(|entry| entry.record);
-        match table::feed_sound(&mut table, bytes, profile) {
-            Err(refusal) => counts.count(refusal_form(refusal as u8)),
-            Ok(accepted) => {
-                count_answer(counts, &accepted);
-                if let (Some(before), Some(item)) = (before, item) {
-                    count_role(counts, &before, &item.body);
-                }
+        let answer = table::feed_sound(&mut table, bytes, profile_bytes);
+        match (&item.body, before) {
+            (Body::Setup(setup), before) => {
+                count_setup(counts, setup, &profile, before.as_ref(), &answer)
             }
+            (Body::Other(other), Some(before)) => count_item(counts, &before, other, &answer),
+            (Body::Other(_), None) => counts.count(refusal_form(Refusal::CallNotOpen as u8)),
         }
-        if table.iter().all(|entry| entry.owner.is_some()) {
-            counts.count("64 open".to_string());
-        }
+        count_table(counts, &table);
     }
     items.len()
 }
 
-fn count_answer(counts: &mut Counts, answer: &Accepted) {
-    counts.count(relationship_form(answer.relationship, answer.hold));
+fn count_malformed(counts: &mut Counts, item: &[u8]) {
+    counts.count(refusal_form(Refusal::ItemMalformed as u8));
+    if let Some(kind) = item.get(3) {
+        counts.count(malformed_form(*kind));
+    }
+}
+
+fn count_table(counts: &mut Counts, table: &[Entry]) {
+    if table.iter().all(|entry| entry.owner.is_some()) {
+        counts.count(FULL.to_string());
+    }
+    let has_open = |kind: &CallKind| {
+        let mut open = table.iter().filter(|entry| entry.owner.is_some());
+        open.any(|entry| entry.record.call_kind == *kind)
+    };
+    if CallKind::BOTH.iter().all(has_open) {
+        counts.count(MIXED.to_string());
+    }
+}
+
+fn count_setup(
+    counts: &mut Counts,
+    setup: &Setup,
+    profile: &Profile,
+    before: Option<&Record>,
+    answer: &Answer,
+) {
+    let call_kind = setup.call_kind;
+    match (answer, before) {
+        (Ok(answer), _) => {
+            let triggered = answer.hold.is_some();
+            counts.count(setup_form(call_kind, triggered));
+            let as_originating = Setup {
+                call_kind: CallKind::Originating,
+                ..*setup
+            };
+            if triggered && !triggers(profile, &as_originating) {
+                counts.count(BY_SERVICES_ALONE.to_string());
+            }
+            count_answer(counts, call_kind, answer);
+        }
+        (Err(_), Some(open)) => counts.count(already_open_form(call_kind, open.call_kind)),
+        (Err(refusal), None) => {
+            counts.count(of_kind(call_kind, &refusal_form(*refusal as u8)));
+        }
+    }
+}
+
+/// An item for an open call.
+fn count_item(counts: &mut Counts, before: &Record, item: &Other, answer: &Answer) {
+    let call_kind = before.call_kind;
+    match answer {
+        Ok(answer) => {
+            count_answer(counts, call_kind, answer);
+            count_role(counts, before, item);
+        }
+        Err(refusal) => {
+            counts.count(of_kind(call_kind, &refusal_form(*refusal as u8)));
+            count_other_kind(counts, before, item, *refusal);
+        }
+    }
+}
+
+/// What is refused since it belongs to the other kind of call.
+fn count_other_kind(counts: &mut Counts, before: &Record, item: &Other, refusal: Refusal) {
+    let call_kind = before.call_kind;
+    match (item, refusal) {
+        (Other::Operation(Operation::RequestReport(entries)), Refusal::BadEntry) => {
+            for entry in entries.iter() {
+                let others = CallKind::BOTH.into_iter().filter(|kind| *kind != call_kind);
+                let point = |kind: CallKind| kind.point(kind.part(entry.point, entry.leg)?);
+                for point in others.filter_map(point) {
+                    counts.count(other_pair_form(call_kind, point));
+                }
+            }
+        }
+        (Other::Event(Event::RouteFailure { .. }), Refusal::NotPossible)
+            if call_kind == CallKind::Terminating =>
+        {
+            counts.count(out_of_place_form(before.stage));
+        }
+        _ => {}
+    }
+}
+
+fn count_answer(counts: &mut Counts, call_kind: CallKind, answer: &Accepted) {
+    let relationship = answer.relationship;
+    counts.count(relationship_form(call_kind, relationship, answer.hold));
     if let Some((point, mode)) = answer.event_report {
         counts.count(report_form(point, mode));
     }
@@ -164,22 +369,25 @@ fn count_answer(counts: &mut Counts, answer: &Accepted) {
         (answer.over, "over"),
     ];
     for (_, form) in forms.into_iter().filter(|(reached, _)| *reached) {
-        counts.count(form.to_string());
+        counts.count(of_kind(call_kind, form));
     }
 }
 
 /// Counts which point an event met, or which operation it was, and when.
-fn count_role(counts: &mut Counts, before: &Record, body: &Body) {
+fn count_role(counts: &mut Counts, before: &Record, item: &Other) {
     let stage = before.stage;
-    match body {
-        Body::Other(Other::Event(event)) => {
-            let point = point_met(event, stage);
-            let mode = before.armings.get(point);
-            counts.count(event_form(point, mode, stage, before.hold.is_some()));
+    match item {
+        Other::Event(event) => {
+            let part = part_met(event, stage);
+            let mode = before.armings.get(part);
+            if let Some(point) = before.call_kind.point(part) {
+                counts.count(event_form(point, mode, stage, before.hold.is_some()));
+            }
         }
-        Body::Other(Other::Operation(operation)) => {
-            counts.count(operation_form(texts::operation_name(operation), stage));
+        Other::Operation(operation) => {
+            let name = texts::operation_name(operation);
+            counts.count(operation_form(before.call_kind, name, stage));
         }
-        Body::Other(Other::PeriodOver(_)) | Body::Setup(_) => {}
+        Other::PeriodOver(_) => {}
     }
 }

@@ -7,14 +7,15 @@ use crate::compare::random::Random;
 use crate::paper::answer::{Accepted, Answer, Refusal};
 use crate::paper::call;
 use crate::paper::forms::{
-    kind, read_item, read_profile, with_length_and_version, write_item, Body, TIME_END,
+    kind, read_item, read_profile, with_length_and_version, write_item, Body, CallKind, TIME_END,
 };
-use crate::paper::record::{Point, Record, Relationship};
+use crate::paper::record::{Hold, Part, Record, Relationship};
 use crate::paper::table::{self, Entry, ENTRIES};
 
 /// The kinds of items, and how often each is tried.
-const KINDS: [(u8, u64); 17] = [
+pub const KINDS: [(u8, u64); 18] = [
     (kind::SETUP, 1),
+    (kind::TERMINATING_SETUP, 1),
     (kind::ROUTE_FAILURE, 2),
     (kind::BUSY, 2),
     (kind::NO_ANSWER, 2),
@@ -54,7 +55,7 @@ pub fn scenario(seed: u64) -> Vec<u8> {
     let mut bytes = generator.profile.clone();
     for place in 0..items as usize {
         let item = match generator.calls.get(place) {
-            Some(call) if full => generator.item(kind::SETUP, *call, None),
+            Some(call) if full => generator.setup(*call),
             _ => generator.next_item(),
         };
         bytes.extend(generator.feed(item));
@@ -164,17 +165,25 @@ impl Generator {
         let owned = self.table.iter().find(|entry| entry.owner == Some(call));
         match owned.map(|entry| entry.record) {
             Some(record) => self.possible_item(call, &record),
-            None if self.random.chance(90) => self.item(kind::SETUP, call, None),
+            None if self.random.chance(90) => self.setup(call),
             None => self.any_item(call, None),
         }
     }
 
+    /// A Setup of either kind.
+    pub fn setup(&mut self, call: u32) -> Vec<u8> {
+        let kind = self.random.pick(&[kind::SETUP, kind::TERMINATING_SETUP]);
+        self.item(kind, call, None)
+    }
+
     /// An item that the call mostly accepts, and that mostly leaves a
-    /// relationship if there was one.
+    /// relationship if there was one; but for a Clear while the call is held, and
+    /// what is reported at the end of a call, which both are rare as it is.
     pub fn possible_item(&mut self, call: u32, record: &Record) -> Vec<u8> {
         loop {
             let item = self.any_item(call, Some(record));
             let percent = match try_item(record, &item) {
+                Some(Ok(answer)) if answer.over && is_rare(record, &item, &answer) => 60,
                 Some(Ok(answer)) if loses_relationship(record, &answer) => 15,
                 Some(Ok(_)) => 100,
                 Some(Err(refusal)) if RARE_REFUSALS.contains(&refusal) => 50,
@@ -204,7 +213,7 @@ impl Generator {
         self.bad_value = self.random.chance(12);
         let mut time = self.time(record);
         let body = match kind {
-            kind::SETUP => {
+            kind::SETUP | kind::TERMINATING_SETUP => {
                 let (nature, digits) = self.number();
                 let service = self.random.pick(&[0, 17, 17, 20, 255]);
                 let forwarded = self.field(&[0, 1], &[2, 255]);
@@ -218,7 +227,10 @@ impl Generator {
                 time = self.time_of_period_over(record, leg).unwrap_or(time);
                 vec![leg]
             }
-            kind::REQUEST_REPORT => self.entries(),
+            kind::REQUEST_REPORT => {
+                let either = self.random.pick(&CallKind::BOTH);
+                self.entries(record.map_or(either, |record| record.call_kind))
+            }
             kind::CONNECT => {
                 let (nature, digits) = self.number();
                 [vec![nature], self.counted(digits)].concat()
@@ -308,36 +320,56 @@ impl Generator {
         [&[count], &digits[..]].concat()
     }
 
-    /// The count and the entries of a Request report.
-    fn entries(&mut self) -> Vec<u8> {
+    /// The count and the entries of a Request report for a call of this kind.
+    fn entries(&mut self, call_kind: CallKind) -> Vec<u8> {
+        let mut armable = Part::ALL.to_vec();
+        armable.retain(|part| call_kind.point(*part).is_some());
         let count = match self.random.below(10) {
-            0 => 10,
+            0 => armable.len() as u8,
             _ => 1 + self.random.below(5) as u8,
         };
-        let count = self.field(&[count], &[0, 11]);
-        let first = self.random.below(10) as usize;
-        // These steps go through all ten pairs; the bad ones name one twice.
-        let step = self.field(&[1, 3, 7, 9], &[0, 5]);
+        let count = self.field(&[count], &[0, 10, 11]);
+        let first = self.random.below(armable.len() as u64) as usize;
+        // These steps go through all the pairs, nine or ten; the bad ones name one
+        // twice.
+        let step = self.field(&[1, 7, 11, 13], &[0, 15]);
         let mut body = vec![count];
         for place in 0..usize::from(count) {
-            let point = Point::ARMABLE[(first + place * step) % 10];
-            body.extend(self.entry(point));
+            let part = armable[(first + place * step) % armable.len()];
+            body.extend(self.entry(call_kind, part));
         }
         body
     }
 
-    fn entry(&mut self, point: Point) -> Vec<u8> {
-        let mode = match point {
-            Point::Moved => self.field(&[1, 1, 2], &[0, 3]),
+    fn entry(&mut self, call_kind: CallKind, part: Part) -> Vec<u8> {
+        let (number, leg) = self.pair(call_kind, part);
+        let mode = match part {
+            Part::Moved => self.field(&[1, 1, 2], &[0, 3]),
             _ => self.field(&[0, 0, 1, 1, 2], &[3, 255]),
         };
-        let timer: u16 = match point {
-            Point::NoAnswer if mode < 2 => self.field(&[0, 1, 30, 2046, 2047], &[2048, 65535]),
+        let timer: u16 = match part {
+            Part::NoAnswer if mode < 2 => self.field(&[0, 1, 30, 2046, 2047], &[2048, 65535]),
             _ => self.field(&[0], &[1, 2047, 65535]),
         };
-        let number = self.field(&[point.number()], &[0, 2, 3, 18, 20, 51, 255]);
-        let leg = self.field(&[point.leg().number()], &[0, 1, 2, 3]);
+        let number = self.field(&[number], &[0, 2, 3, 12, 20, 255]);
+        let leg = self.field(&[leg], &[0, 1, 2, 3]);
         [&[number, leg, mode], &timer.to_be_bytes()[..]].concat()
+    }
+
+    /// The part's point and leg; a bad value is any pair of the other kind of
+    /// call.
+    fn pair(&mut self, call_kind: CallKind, part: Part) -> (u8, u8) {
+        let pairs = |kind: CallKind, parts: &[Part]| -> Vec<(u8, u8)> {
+            let points = parts.iter().filter_map(|part| kind.point(*part));
+            points
+                .map(|point| (point.number, point.leg.number()))
+                .collect()
+        };
+        let other = match call_kind {
+            CallKind::Originating => CallKind::Terminating,
+            CallKind::Terminating => CallKind::Originating,
+        };
+        self.field(&pairs(call_kind, &[part]), &pairs(other, &Part::ALL))
     }
 
     /// Lets the engine run along.
@@ -373,6 +405,13 @@ fn try_item(record: &Record, item: &[u8]) -> Option<Answer> {
     }
 }
 
+/// An event that is reported, or a Clear that finds the call held at a point that
+/// it met.
+fn is_rare(record: &Record, item: &[u8], answer: &Accepted) -> bool {
+    let is_held = matches!(record.hold, Some(Hold::At(_)));
+    answer.event_report.is_some() || is_held && item[3] == kind::CLEAR
+}
+
 fn loses_relationship(record: &Record, answer: &Accepted) -> bool {
     record.relationship() != Relationship::None && answer.relationship == Relationship::None
 }
@@ -389,7 +428,7 @@ fn spoil(random: &mut Random, bytes: &mut Vec<u8>) {
     let place = 2 + random.below(bytes.len() as u64 - 2) as usize;
     match random.below(5) {
         0 => bytes[2] = random.pick(&[0, 2, 255]),
-        1 => bytes[3] = random.pick(&[0, 2, 11, 19, 27, 255]),
+        1 => bytes[3] = random.pick(&[0, 2, 11, 12, 19, 27, 255]),
         2 => bytes[place] = random.pick(&[0, 1, 2, 3, 9, 10, 11, 15, 16, 128, 181, 255]),
         3 => bytes.push(random.below(2) as u8),
         _ => drop(bytes.pop()),

@@ -1,17 +1,21 @@
 //! Whole tables handed in: the form of a case, and the program that answers
 //! cases.
 //!
-//! A case is its length (2 bytes), the number of entries (1), the entries (87
+//! A case is its length (2 bytes), the number of entries (1), the entries (88
 //! each), the length of a profile (1), the profile, and an item. The answer is
 //! a line of the listing and then the entries as they are afterwards.
+//!
+//! The armings and the hold are those of parts, in the same places whatever the
+//! kind of call, and a terminating call's bytes have a place for Route failure
+//! too. The last byte is the kind of call: 0 originating, 1 terminating.
 
 use crate::paper::answer::Answer;
-use crate::paper::forms::{Handling, Reader, Seconds, Tenths};
+use crate::paper::forms::{CallKind, Handling, Reader, Seconds, Tenths};
 use crate::paper::listing;
-use crate::paper::record::{Armings, CalledNumber, Charge, Mode, Point, Record, Stage};
+use crate::paper::record::{Armings, CalledNumber, Charge, Hold, Mode, Part, Record, Stage};
 use crate::paper::table::{self, Entry};
 
-pub const ENTRY_BYTES: usize = 87;
+pub const ENTRY_BYTES: usize = 88;
 
 pub struct Case {
     pub table: Vec<Entry>,
@@ -85,16 +89,21 @@ fn write_entry(entry: &Entry, bytes: &mut Vec<u8>) {
         bytes.push(present.into());
         write_charge(charge, bytes);
     }
-    bytes.push(record.hold.map_or(0, |point| point as u8 + 1));
+    bytes.push(match record.hold {
+        None => 0,
+        Some(Hold::Trigger) => 1,
+        Some(Hold::At(part)) => part as u8 + 2,
+    });
     bytes.extend(record.last.0.to_be_bytes());
-    for point in Point::ARMABLE {
-        bytes.push(record.armings.get(point).map_or(0, |mode| mode as u8 + 1));
+    for part in Part::ALL {
+        bytes.push(record.armings.get(part).map_or(0, |mode| mode as u8 + 1));
     }
     bytes.extend(record.kept_timer.0.to_be_bytes());
     bytes.extend(record.default_timer.0.to_be_bytes());
     bytes.push(record.default_handling as u8);
     bytes.extend([record.called.nature, record.called.count]);
     bytes.extend(record.called.places);
+    bytes.push(record.call_kind as u8);
 }
 
 fn write_charge(charge: Option<Charge>, bytes: &mut Vec<u8>) {
@@ -129,19 +138,19 @@ pub fn read_entry(bytes: &[u8]) -> Option<Entry> {
     let (present_2, charge_2) = (read_flag(reader)?, read_charge(reader)?);
     let hold = match reader.byte()? {
         0 => None,
-        1 => Some(Point::CollectedInfo),
-        place => Some(*Point::ARMABLE.get(usize::from(place) - 2)?),
+        1 => Some(Hold::Trigger),
+        place => Some(Hold::At(*Part::ALL.get(usize::from(place) - 2)?)),
     };
     let last = Tenths(reader.number::<8>()?);
     let mut armings = Armings::NONE;
-    for point in Point::ARMABLE {
+    for part in Part::ALL {
         let mode = match reader.byte()? {
             0 => None,
             1 => Some(Mode::Interrupted),
             2 => Some(Mode::Notify),
             _ => return None,
         };
-        armings.set(point, mode);
+        armings.set(part, mode);
     }
     let kept_timer = Seconds(reader.number::<4>()? as u32);
     let default_timer = Seconds(reader.number::<4>()? as u32);
@@ -155,9 +164,15 @@ pub fn read_entry(bytes: &[u8]) -> Option<Entry> {
         count: reader.byte()?,
         places: reader.bytes(15)?.try_into().ok()?,
     };
+    let call_kind = match reader.byte()? {
+        0 => CallKind::Originating,
+        1 => CallKind::Terminating,
+        _ => return None,
+    };
     Some(Entry {
         owner: owned.then_some(call),
         record: Record {
+            call_kind,
             stage,
             present: [present_1, present_2],
             hold,

@@ -1,21 +1,23 @@
 //! The behaviour of one call: its answers and its next record.
 //!
 //! Document 01, sections "One call" and "A call by itself", and the rows 7 to
-//! 14 of "Numbered refusals".
+//! 14 of "Numbered refusals"; document 02, T-01 and T-04. The rules speak of the
+//! parts that points have; which points these are is the call's kind's.
 
 use crate::paper::answer::{Accepted, Answer, Refusal};
 use crate::paper::forms::{
-    Entries, Entry, Event, Handling, Leg, Operation, Other, Profile, Seconds, Setup, Tenths,
-    LONGEST_TIMER,
+    CallKind, Entries, Entry, Event, Handling, Leg, Operation, Other, Profile, Seconds, Setup,
+    Tenths, LONGEST_TIMER,
 };
 use crate::paper::record::{
-    Armings, CalledNumber, Charge, Mode, Point, Record, Relationship, Stage,
+    Armings, CalledNumber, Charge, Hold, Mode, Part, Record, Relationship, Stage,
 };
 use crate::paper::trigger::triggers;
 
 /// The first record of a call, and the answer to its Setup.
 pub fn set_up(setup: &Setup, time: Tenths, profile: &Profile) -> (Record, Accepted) {
     let mut record = Record {
+        call_kind: setup.call_kind,
         stage: Stage::Analysing,
         present: [true; 2],
         hold: None,
@@ -29,13 +31,13 @@ pub fn set_up(setup: &Setup, time: Tenths, profile: &Profile) -> (Record, Accept
     };
     let mut answer = Accepted::PLAIN;
     if triggers(profile, setup) {
-        record.hold = Some(Point::CollectedInfo);
-        answer.event_report = Some((Point::CollectedInfo, Mode::Interrupted));
+        record.hold = Some(Hold::Trigger);
+        answer.event_report = Some((setup.call_kind.trigger(), Mode::Interrupted));
     } else {
         start_routing(&mut record, &mut answer);
     }
     answer.relationship = record.relationship();
-    answer.hold = record.hold;
+    answer.hold = record.hold_point();
     (record, answer)
 }
 
@@ -46,18 +48,20 @@ pub fn step(record: &mut Record, time: Tenths, item: &Other) -> Answer {
     record.last = time;
     let mut answer = Accepted::PLAIN;
     match item {
-        Other::Event(event) => meet(record, point_met(event, record.stage), &mut answer),
+        Other::Event(event) => meet(record, part_met(event, record.stage), &mut answer),
         Other::PeriodOver(leg) => report_charge(record, *leg, &mut answer),
         Other::Operation(operation) => perform(record, operation, &mut answer),
     }
     if answer.over {
         report_charge(record, Leg::One, &mut answer);
         report_charge(record, Leg::Two, &mut answer);
-    } else {
-        answer.relationship = record.relationship();
-        answer.hold = record.hold;
+        return Ok(answer);
     }
-    Ok(answer)
+    Ok(Accepted {
+        relationship: record.relationship(),
+        hold: record.hold_point(),
+        ..answer
+    })
 }
 
 /// The rows 7 to 14; the first that applies is given.
@@ -66,7 +70,7 @@ fn check(record: &Record, time: Tenths, item: &Other) -> Result<(), Refusal> {
     refuse_if(lacks_relationship(record, item), Refusal::NoControl)?;
     refuse_if(is_event_while_held(record, item), Refusal::EventWhileHeld)?;
     refuse_if(lacks_hold(record, item), Refusal::NotHeld)?;
-    refuse_if(has_bad_entry(item), Refusal::BadEntry)?;
+    refuse_if(has_bad_entry(record, item), Refusal::BadEntry)?;
     refuse_if(!is_possible(record, item), Refusal::NotPossible)?;
     refuse_if(is_second_charge(record, item), Refusal::ChargePending)?;
     refuse_if(is_too_early(record, time, item), Refusal::PeriodNotOver)
@@ -109,19 +113,19 @@ fn lacks_hold(record: &Record, item: &Other) -> bool {
 }
 
 /// Row 11.
-fn has_bad_entry(item: &Other) -> bool {
+fn has_bad_entry(record: &Record, item: &Other) -> bool {
     let Other::Operation(Operation::RequestReport(entries)) = item else {
         return false;
     };
-    let mut named = [false; Point::ARMABLE.len() + 1];
+    let mut named = [false; Part::ALL.len()];
     for entry in entries.iter() {
-        let Some(Arming { point, .. }) = read_entry(&entry) else {
+        let Some(Arming { part, .. }) = read_entry(record.call_kind, &entry) else {
             return true;
         };
-        if named[point as usize] {
+        if named[part as usize] {
             return true;
         }
-        named[point as usize] = true;
+        named[part as usize] = true;
     }
     false
 }
@@ -129,13 +133,13 @@ fn has_bad_entry(item: &Other) -> bool {
 /// Row 12.
 fn is_possible(record: &Record, item: &Other) -> bool {
     match item {
-        Other::Event(event) => occurs_now(record, point_met(event, record.stage)),
+        Other::Event(event) => occurs_now(record, part_met(event, record.stage)),
         Other::PeriodOver(leg) => end_of_period(record, *leg).is_some(),
-        Other::Operation(Operation::RequestReport(entries)) => armings(*entries)
-            .all(|arming| arming.mode.is_none() || can_still_occur(record, arming.point)),
-        // Open in the paper: a hold at 2 is enough, whatever the legs.
+        Other::Operation(Operation::RequestReport(entries)) => armings(record.call_kind, *entries)
+            .all(|arming| arming.mode.is_none() || can_still_occur(record, arming.part)),
+        // Open in the paper: a hold at 2 (or 12) is enough, whatever the legs.
         Other::Operation(Operation::Connect(_)) => {
-            record.hold == Some(Point::CollectedInfo) || record.present == [true, false]
+            record.hold == Some(Hold::Trigger) || record.present == [true, false]
         }
         Other::Operation(Operation::ApplyCharging { leg, .. }) => {
             record.is_present(*leg) && record.is_present(Leg::One)
@@ -166,112 +170,124 @@ fn end_of_period(record: &Record, leg: Leg) -> Option<Tenths> {
     Some(charge.start? + charge.period)
 }
 
-/// The point that an event meets.
-pub fn point_met(event: &Event, stage: Stage) -> Point {
+/// The part of the point that an event meets.
+pub fn part_met(event: &Event, stage: Stage) -> Part {
     match event {
-        Event::RouteFailure { .. } => Point::RouteFailure,
-        Event::Busy { .. } => Point::Busy,
-        Event::NoAnswer => Point::NoAnswer,
-        Event::Seized => Point::Seized,
-        Event::Answer => Point::Answer,
-        Event::MidCall { .. } => Point::MidCall,
-        Event::Moved => Point::Moved,
-        Event::Clear { leg: Leg::One, .. } if stage == Stage::Active => Point::Disconnect1,
-        Event::Clear { leg: Leg::One, .. } => Point::Abandon,
-        Event::Clear { leg: Leg::Two, .. } => Point::Disconnect2,
+        Event::RouteFailure { .. } => Part::RouteFailure,
+        Event::Busy { .. } => Part::Busy,
+        Event::NoAnswer => Part::NoAnswer,
+        Event::Seized => Part::Seized,
+        Event::Answer => Part::Answer,
+        Event::MidCall { .. } => Part::MidCall,
+        Event::Moved => Part::Moved,
+        Event::Clear { leg: Leg::One, .. } if stage == Stage::Active => Part::Disconnect1,
+        Event::Clear { leg: Leg::One, .. } => Part::Abandon,
+        Event::Clear { leg: Leg::Two, .. } => Part::Disconnect2,
     }
 }
 
-/// Whether the point's event is possible at this stage and with these legs.
-fn occurs_now(record: &Record, point: Point) -> bool {
-    record.is_present(point.leg()) && occurs_at(record.stage, point)
+/// Whether the part's event is possible in this call, at this stage and with
+/// these legs.
+fn occurs_now(record: &Record, part: Part) -> bool {
+    let point = record.call_kind.point(part);
+    point.is_some_and(|point| record.is_present(point.leg)) && occurs_at(record.stage, part)
 }
 
-/// The stages of each point's event.
-pub fn occurs_at(stage: Stage, point: Point) -> bool {
-    match point {
-        Point::RouteFailure | Point::Seized => stage == Stage::Analysing,
-        Point::Busy | Point::NoAnswer | Point::Answer | Point::Abandon => stage != Stage::Active,
-        Point::MidCall | Point::Disconnect1 | Point::Disconnect2 => stage == Stage::Active,
-        Point::Moved => stage != Stage::Analysing,
-        // Only a Setup meets it.
-        Point::CollectedInfo => false,
+/// The stages of each part's event.
+pub fn occurs_at(stage: Stage, part: Part) -> bool {
+    match part {
+        Part::RouteFailure | Part::Seized => stage == Stage::Analysing,
+        Part::Busy | Part::NoAnswer | Part::Answer | Part::Abandon => stage != Stage::Active,
+        Part::MidCall | Part::Disconnect1 | Part::Disconnect2 => stage == Stage::Active,
+        Part::Moved => stage != Stage::Analysing,
     }
 }
 
-/// Whether the point may be armed, since it can occur now or later.
-fn can_still_occur(record: &Record, point: Point) -> bool {
+/// Whether a point of the call may be armed, since it can occur now or later.
+fn can_still_occur(record: &Record, part: Part) -> bool {
     if !record.is_present(Leg::One) {
         return false;
     }
     if !record.is_present(Leg::Two) {
         return true; // a Connect may follow
     }
-    match point {
-        Point::RouteFailure | Point::Seized => record.stage == Stage::Analysing,
-        Point::Busy | Point::NoAnswer | Point::Answer | Point::Abandon => {
-            record.stage != Stage::Active
-        }
+    match part {
+        Part::RouteFailure | Part::Seized => record.stage == Stage::Analysing,
+        Part::Busy | Part::NoAnswer | Part::Answer | Part::Abandon => record.stage != Stage::Active,
         _ => true,
     }
 }
 
 /// A met point: report, disarm, and what becomes of leg, stage and hold.
-fn meet(record: &mut Record, point: Point, answer: &mut Accepted) {
-    let mode = record.armings.get(point);
+fn meet(record: &mut Record, part: Part, answer: &mut Accepted) {
+    let Some(point) = record.call_kind.point(part) else {
+        return; // row 12 has refused it
+    };
+    let mode = record.armings.get(part);
     let interrupted = mode == Some(Mode::Interrupted);
     answer.event_report = mode.map(|mode| (point, mode));
-    for armed in Point::ARMABLE {
-        if disarms(point, armed) {
-            record.armings.set(armed, None);
+    match row(part) {
+        Row::AllOfLeg => {
+            disarm_leg(record, point.leg);
+            record.present[point.leg as usize] = false;
+            report_charge(record, point.leg, answer);
+            answer.over = !interrupted;
         }
+        Row::UntilAnswer => {
+            for part in UNTIL_ANSWER {
+                record.armings.set(part, None);
+            }
+        }
+        Row::Itself => record.armings.set(part, None),
     }
-    if ends_leg(point) {
-        record.present[point.leg() as usize] = false;
-        report_charge(record, point.leg(), answer);
-        answer.over = !interrupted;
-    }
-    match point {
-        Point::Seized => record.stage = Stage::Alerting,
-        Point::Answer => {
+    match part {
+        Part::Seized => record.stage = Stage::Alerting,
+        Part::Answer => {
             record.stage = Stage::Active;
             start_charges(record);
         }
         _ => {}
     }
-    record.hold = interrupted.then_some(point);
+    record.hold = interrupted.then_some(Hold::At(part));
 }
 
-/// Document 01's table of what a met point disarms, its row of 7 as T-01 of
-/// document 02 has it.
-fn disarms(met: Point, point: Point) -> bool {
+/// What a met point disarms.
+enum Row {
+    /// The first row and the last one, which make the leg absent too.
+    AllOfLeg,
+    /// That of Answer: what cannot be met after it.
+    UntilAnswer,
+    Itself,
+}
+
+const UNTIL_ANSWER: [Part; 6] = [
+    Part::RouteFailure,
+    Part::Busy,
+    Part::NoAnswer,
+    Part::Answer,
+    Part::Abandon,
+    Part::Seized,
+];
+
+/// Document 01's table, its row of 7 as T-01 of document 02 has it.
+fn row(met: Part) -> Row {
     match met {
-        Point::RouteFailure | Point::Busy | Point::NoAnswer | Point::Disconnect2 => {
-            point.leg() == Leg::Two
-        }
-        Point::Answer => matches!(
-            point,
-            Point::RouteFailure
-                | Point::Busy
-                | Point::NoAnswer
-                | Point::Answer
-                | Point::Abandon
-                | Point::Seized
-        ),
-        Point::MidCall | Point::Seized | Point::Moved => point == met,
-        Point::Abandon | Point::Disconnect1 => point.leg() == Leg::One,
-        // Only a Setup meets it, when nothing is armed.
-        Point::CollectedInfo => false,
+        Part::RouteFailure | Part::Busy | Part::NoAnswer | Part::Disconnect2 => Row::AllOfLeg,
+        Part::Answer => Row::UntilAnswer,
+        Part::MidCall | Part::Seized | Part::Moved => Row::Itself,
+        Part::Abandon | Part::Disconnect1 => Row::AllOfLeg,
     }
 }
 
-/// The first and the last row of that table make their leg absent.
-fn ends_leg(met: Point) -> bool {
-    match met {
-        Point::RouteFailure | Point::Busy | Point::NoAnswer | Point::Disconnect2 => true,
-        Point::Abandon | Point::Disconnect1 => true,
-        Point::Answer | Point::MidCall | Point::Seized | Point::Moved => false,
-        Point::CollectedInfo => false,
+fn disarm_leg(record: &mut Record, leg: Leg) {
+    for part in Part::ALL {
+        if record
+            .call_kind
+            .point(part)
+            .is_some_and(|point| point.leg == leg)
+        {
+            record.armings.set(part, None);
+        }
     }
 }
 
@@ -301,38 +317,38 @@ fn perform(record: &mut Record, operation: &Operation, answer: &mut Accepted) {
 /// What a good entry asks for: the mode of its point (none disarms), and a
 /// no-answer timer (zero for none).
 struct Arming {
-    point: Point,
+    part: Part,
     mode: Option<Mode>,
     timer: Seconds,
 }
 
 /// Nothing if the entry is bad by refusal 11.
-fn read_entry(entry: &Entry) -> Option<Arming> {
-    let point = Point::ARMABLE
-        .into_iter()
-        .find(|point| point.number() == entry.point && point.leg().number() == entry.leg)?;
+fn read_entry(call_kind: CallKind, entry: &Entry) -> Option<Arming> {
+    let part = call_kind.part(entry.point, entry.leg)?;
     let mode = match entry.mode {
-        0 if point != Point::Moved => Some(Mode::Interrupted),
+        0 => Some(Mode::Interrupted),
         1 => Some(Mode::Notify),
         2 => None,
         _ => return None,
     };
     let timer = Seconds(entry.timer.into());
-    let longest = match point {
-        Point::NoAnswer if mode.is_some() => LONGEST_TIMER,
+    let longest = match part {
+        Part::NoAnswer if mode.is_some() => LONGEST_TIMER,
         _ => Seconds(0),
     };
-    (timer <= longest).then_some(Arming { point, mode, timer })
+    let good = mode.is_none_or(|mode| part.takes(mode)) && timer <= longest;
+    good.then_some(Arming { part, mode, timer })
 }
 
 /// The armings of entries that refusal 11 has found good.
-fn armings(entries: Entries<'_>) -> impl Iterator<Item = Arming> + '_ {
-    entries.iter().filter_map(|entry| read_entry(&entry))
+fn armings(call_kind: CallKind, entries: Entries<'_>) -> impl Iterator<Item = Arming> + '_ {
+    let arming = move |entry| read_entry(call_kind, &entry);
+    entries.iter().filter_map(arming)
 }
 
 fn request_report(record: &mut Record, entries: Entries) {
-    for arming in armings(entries) {
-        record.armings.set(arming.point, arming.mode);
+    for arming in armings(record.call_kind, entries) {
+        record.armings.set(arming.part, arming.mode);
         if arming.timer != Seconds(0) {
             record.kept_timer = arming.timer;
         }
@@ -345,7 +361,7 @@ fn resume(record: &mut Record, answer: &mut Accepted) {
         answer.over = true;
         return;
     }
-    if record.hold == Some(Point::CollectedInfo) {
+    if record.hold == Some(Hold::Trigger) {
         start_routing(record, answer);
     }
     record.hold = None;

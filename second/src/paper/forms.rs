@@ -1,6 +1,6 @@
 //! Items and profiles as bytes: what is well-formed, and what it says.
 //!
-//! Document 01, sections "Units" and "Forms".
+//! Document 01, sections "Units" and "Forms"; document 02, T-04 (kind 11).
 
 use std::ops::{Add, RangeInclusive, Sub};
 
@@ -51,6 +51,7 @@ pub mod kind {
     pub const MOVED: u8 = 8;
     pub const CLEAR: u8 = 9;
     pub const PERIOD_OVER: u8 = 10;
+    pub const TERMINATING_SETUP: u8 = 11;
     pub const REQUEST_REPORT: u8 = 20;
     pub const CONTINUE: u8 = 21;
     pub const CONNECT: u8 = 22;
@@ -71,7 +72,7 @@ pub const DIGIT_COUNTS: RangeInclusive<u8> = 1..=15;
 pub const DIGITS: RangeInclusive<u8> = 0..=14;
 pub const CAUSES: RangeInclusive<u8> = 0..=127;
 const ENTRY_COUNTS: RangeInclusive<u8> = 1..=10;
-const ENTRY_BYTES: usize = 5;
+pub const ENTRY_BYTES: usize = 5;
 pub const NUMBER_COUNTS: RangeInclusive<u8> = 0..=10;
 pub const LENGTH_COUNTS: RangeInclusive<u8> = 0..=3;
 pub const SERVICE_COUNTS: RangeInclusive<u8> = 0..=5;
@@ -87,7 +88,19 @@ pub enum Body<'a> {
     Other(Other<'a>),
 }
 
+/// Whose service it is: the caller's or the called party's.
+#[derive(Clone, Copy, PartialEq, Eq, Debug)]
+pub enum CallKind {
+    Originating,
+    Terminating,
+}
+
+impl CallKind {
+    pub const BOTH: [CallKind; 2] = [CallKind::Originating, CallKind::Terminating];
+}
+
 pub struct Setup<'a> {
+    pub call_kind: CallKind,
     pub number: Number<'a>,
     pub service: u8,
     pub forwarded: bool,
@@ -131,7 +144,7 @@ pub enum Leg {
 impl Leg {
     pub const BOTH: [Leg; 2] = [Leg::One, Leg::Two];
 
-    pub fn number(self) -> u8 {
+    pub const fn number(self) -> u8 {
         self as u8 + 1
     }
 }
@@ -206,7 +219,8 @@ fn read_body<'a>(kind: u8, reader: &mut Reader<'a>) -> Option<Body<'a>> {
     let event = |event| Body::Other(Other::Event(event));
     let operation = |operation| Body::Other(Other::Operation(operation));
     Some(match kind {
-        kind::SETUP => Body::Setup(reader.setup()?),
+        kind::SETUP => Body::Setup(reader.setup(CallKind::Originating)?),
+        kind::TERMINATING_SETUP => Body::Setup(reader.setup(CallKind::Terminating)?),
         kind::ROUTE_FAILURE => {
             let cause = reader.byte_in(CAUSES)?;
             event(Event::RouteFailure { cause })
@@ -311,12 +325,13 @@ impl<'a> Reader<'a> {
         self.bytes(count.into())
     }
 
-    fn setup(&mut self) -> Option<Setup<'a>> {
+    fn setup(&mut self, call_kind: CallKind) -> Option<Setup<'a>> {
         let nature = self.byte_in(NATURES)?;
         let service = self.byte()?;
         let forwarded = self.byte_in(0..=1)? == 1;
         let digits = self.digits()?;
         Some(Setup {
+            call_kind,
             number: Number { nature, digits },
             service,
             forwarded,

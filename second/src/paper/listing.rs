@@ -118,14 +118,14 @@ fn push_accepted(text: &mut Vec<u8>, answer: &Accepted) {
     });
     // As in the paper's example: the point alone, without its leg.
     match answer.hold {
-        Some(point) => push_number(text, point.number().into()),
+        Some(point) => push_number(text, point.number.into()),
         None => text.push(b'-'),
     }
     if let Some((point, mode)) = answer.event_report {
         text.extend_from_slice(&[b' ', mode.mark()]);
-        push_number(text, point.number().into());
+        push_number(text, point.number.into());
         text.push(b'/');
-        push_number(text, point.leg().number().into());
+        push_number(text, point.leg.number().into());
     }
     for leg in Leg::BOTH {
         if let Some(elapsed) = answer.charge_reports[leg as usize] {

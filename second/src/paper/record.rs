@@ -1,9 +1,10 @@
 //! What is kept of one call.
 //!
 //! Document 01, section "One call": the fields, the armable points, the
-//! relationship. What is in range of them is in `table.rs`.
+//! relationship; document 02, T-04: the points of a terminating call. What is in
+//! range of them is in `table.rs`.
 
-use crate::paper::forms::{Handling, Leg, Number, Seconds, Tenths};
+use crate::paper::forms::{CallKind, Handling, Leg, Number, Seconds, Tenths};
 
 #[derive(Clone, Copy, PartialEq, Eq, Debug)]
 pub enum Stage {
@@ -16,11 +17,10 @@ impl Stage {
     pub const ALL: [Stage; 3] = [Stage::Analysing, Stage::Alerting, Stage::Active];
 }
 
-/// Point 2 (Collected_Info), where a triggered call is held, and the ten
-/// armable points with their legs, in the paper's order.
+/// What a detection point is there for, in a call of either kind; the armings
+/// lie in this order.
 #[derive(Clone, Copy, PartialEq, Eq, Debug)]
-pub enum Point {
-    CollectedInfo,
+pub enum Part {
     MidCall,
     Disconnect1,
     Abandon,
@@ -33,51 +33,136 @@ pub enum Point {
     Seized,
 }
 
-impl Point {
-    pub const ARMABLE: [Point; 10] = [
-        Point::MidCall,
-        Point::Disconnect1,
-        Point::Abandon,
-        Point::Moved,
-        Point::RouteFailure,
-        Point::Busy,
-        Point::NoAnswer,
-        Point::Answer,
-        Point::Disconnect2,
-        Point::Seized,
+impl Part {
+    pub const ALL: [Part; 10] = [
+        Part::MidCall,
+        Part::Disconnect1,
+        Part::Abandon,
+        Part::Moved,
+        Part::RouteFailure,
+        Part::Busy,
+        Part::NoAnswer,
+        Part::Answer,
+        Part::Disconnect2,
+        Part::Seized,
     ];
 
-    /// The point's number in TS 29.078.
-    pub fn number(self) -> u8 {
+    /// Moved never interrupts.
+    pub fn takes(self, mode: Mode) -> bool {
+        self != Part::Moved || mode == Mode::Notify
+    }
+}
+
+/// A detection point as the papers name it: its number in TS 29.078, and its
+/// leg.
+#[derive(Clone, Copy, PartialEq, Eq, Debug)]
+pub struct Point {
+    pub number: u8,
+    pub leg: Leg,
+}
+
+/// The detection points of a kind of call.
+struct PointSet {
+    /// Where a triggered call is held.
+    trigger: Point,
+    /// In the order of `Part::ALL`; none where the call has no such point.
+    parts: [Option<Point>; 10],
+}
+
+const ORIGINATING: PointSet = PointSet {
+    trigger: leg_1(2),
+    parts: [
+        Some(leg_1(8)),
+        Some(leg_1(9)),
+        Some(leg_1(10)),
+        Some(leg_1(50)),
+        Some(leg_2(4)),
+        Some(leg_2(5)),
+        Some(leg_2(6)),
+        Some(leg_2(7)),
+        Some(leg_2(9)),
+        Some(leg_2(19)),
+    ],
+};
+
+const TERMINATING: PointSet = PointSet {
+    trigger: leg_1(12),
+    parts: [
+        Some(leg_2(16)),
+        Some(leg_1(17)),
+        Some(leg_1(18)),
+        Some(leg_2(51)),
+        None, // Route failure is out of place
+        Some(leg_2(13)),
+        Some(leg_2(14)),
+        Some(leg_2(15)),
+        Some(leg_2(17)),
+        Some(leg_2(27)),
+    ],
+};
+
+const fn leg_1(number: u8) -> Point {
+    let leg = Leg::One;
+    Point { number, leg }
+}
+
+const fn leg_2(number: u8) -> Point {
+    let leg = Leg::Two;
+    Point { number, leg }
+}
+
+/// The parts by the legs and the numbers of their points, to be looked up; made
+/// of the sets, for each kind of call.
+static BY_POINT: [PartsByPoint; 2] = [by_point(&ORIGINATING), by_point(&TERMINATING)];
+
+/// In the places of the leg's number and of the point's; the highest is 51.
+type PartsByPoint = [[Option<Part>; 52]; 3];
+
+const fn by_point(points: &PointSet) -> PartsByPoint {
+    let mut parts = [[None; 52]; 3];
+    let mut place = 0;
+    while place < Part::ALL.len() {
+        if let Some(Point { number, leg }) = points.parts[place] {
+            parts[leg.number() as usize][number as usize] = Some(Part::ALL[place]);
+        }
+        place += 1;
+    }
+    parts
+}
+
+impl CallKind {
+    fn points(self) -> &'static PointSet {
         match self {
-            Point::CollectedInfo => 2,
-            Point::MidCall => 8,
-            Point::Disconnect1 | Point::Disconnect2 => 9,
-            Point::Abandon => 10,
-            Point::Moved => 50,
-            Point::RouteFailure => 4,
-            Point::Busy => 5,
-            Point::NoAnswer => 6,
-            Point::Answer => 7,
-            Point::Seized => 19,
+            CallKind::Originating => &ORIGINATING,
+            CallKind::Terminating => &TERMINATING,
         }
     }
 
-    pub fn leg(self) -> Leg {
-        match self {
-            Point::CollectedInfo
-            | Point::MidCall
-            | Point::Disconnect1
-            | Point::Abandon
-            | Point::Moved => Leg::One,
-            Point::RouteFailure
-            | Point::Busy
-            | Point::NoAnswer
-            | Point::Answer
-            | Point::Disconnect2
-            | Point::Seized => Leg::Two,
-        }
+    pub fn trigger(self) -> Point {
+        self.points().trigger
     }
+
+    /// None if such a call has no point for the part.
+    pub fn point(self, part: Part) -> Option<Point> {
+        self.points().parts[part as usize]
+    }
+
+    /// The part of an armable point; none if such a call has no such point.
+    pub fn part(self, number: u8, leg: u8) -> Option<Part> {
+        let of_leg = BY_POINT[self as usize].get(usize::from(leg))?;
+        *of_leg.get(usize::from(number))?
+    }
+
+    pub fn can_arm(self, part: Part, mode: Mode) -> bool {
+        self.point(part).is_some() && part.takes(mode)
+    }
+}
+
+/// Where a call is held: where it was triggered, or at a point that it met.
+#[derive(Clone, Copy, PartialEq, Eq, Debug)]
+pub enum Hold {
+    Trigger,
+    At(Part),
 }
 
 /// The mode of an armed point; an unarmed (transparent) one has none.
@@ -99,21 +184,19 @@ impl Mode {
     }
 }
 
-/// The modes of the ten armable points.
+/// The modes of the points, each in the place of its part.
 #[derive(Clone, Copy, PartialEq, Eq, Debug)]
 pub struct Armings([Option<Mode>; 10]);
 
 impl Armings {
     pub const NONE: Armings = Armings([None; 10]);
 
-    /// `point` is one of `Point::ARMABLE`.
-    pub fn get(&self, point: Point) -> Option<Mode> {
-        self.0[point as usize - 1]
+    pub fn get(&self, part: Part) -> Option<Mode> {
+        self.0[part as usize]
     }
 
-    /// `point` is one of `Point::ARMABLE`.
-    pub fn set(&mut self, point: Point, mode: Option<Mode>) {
-        self.0[point as usize - 1] = mode;
+    pub fn set(&mut self, part: Part, mode: Option<Mode>) {
+        self.0[part as usize] = mode;
     }
 
     pub fn any(&self, mode: Mode) -> bool {
@@ -161,10 +244,11 @@ impl CalledNumber {
 /// What is with a leg stands in the place `leg as usize`.
 #[derive(Clone, Copy, PartialEq, Eq, Debug)]
 pub struct Record {
+    pub call_kind: CallKind,
     pub stage: Stage,
     pub present: [bool; 2],
-    /// The point of suspension, if the call is held.
-    pub hold: Option<Point>,
+    /// None if the call is not held.
+    pub hold: Option<Hold>,
     pub last: Tenths,
     pub armings: Armings,
     pub charges: [Option<Charge>; 2],
@@ -185,6 +269,7 @@ pub enum Relationship {
 impl Record {
     /// The record of a free entry: every field zero or none.
     pub const BLANK: Record = Record {
+        call_kind: CallKind::Originating,
         stage: Stage::Analysing,
         present: [false; 2],
         hold: None,
@@ -207,6 +292,14 @@ impl Record {
 
     pub fn charge(&self, leg: Leg) -> Option<Charge> {
         self.charges[leg as usize]
+    }
+
+    /// The point of suspension, if the call is held.
+    pub fn hold_point(&self) -> Option<Point> {
+        match self.hold? {
+            Hold::Trigger => Some(self.call_kind.trigger()),
+            Hold::At(part) => self.call_kind.point(part),
+        }
     }
 
     pub fn relationship(&self) -> Relationship {

@@ -1,7 +1,7 @@
 //! The call table, and feeding an item to it.
 //!
 //! Document 01, section "The call table", and the rows 1 to 6 of "Numbered
-//! refusals".
+//! refusals"; document 02, T-04: the point pairs of row 3.
 
 use crate::paper::answer::{Answer, Refusal};
 use crate::paper::call;
@@ -9,7 +9,7 @@ use crate::paper::forms::{
     read_item, read_profile, Body, Item, Other, Profile, Setup, Tenths, DEFAULT_TIMERS, DIGITS,
     DIGIT_COUNTS, LONGEST_TIMER, NATURES, PERIODS, TIME_END,
 };
-use crate::paper::record::{CalledNumber, Charge, Mode, Point, Record};
+use crate::paper::record::{CalledNumber, Charge, Hold, Mode, Part, Record};
 
 pub const ENTRIES: usize = 64;
 
@@ -133,15 +133,45 @@ fn has_call_twice(table: &[Entry; ENTRIES]) -> bool {
 
 fn entry_is_sound(entry: &Entry) -> bool {
     match entry.owner {
-        None => entry.record == Record::BLANK,
+        None => is_blank(&entry.record),
         Some(_) => record_is_in_range(&entry.record),
     }
 }
 
+/// The same as `Record::BLANK`, field by field: the compiler calls the comparison
+/// of whole records as a function, and most of a table is free.
+fn is_blank(record: &Record) -> bool {
+    let Record {
+        call_kind,
+        stage,
+        present,
+        hold,
+        last,
+        armings,
+        charges,
+        kept_timer,
+        default_timer,
+        default_handling,
+        called,
+    } = record;
+    let blank = Record::BLANK;
+    *call_kind == blank.call_kind
+        && *stage == blank.stage
+        && *present == blank.present
+        && hold.is_none()
+        && *last == blank.last
+        && *armings == blank.armings
+        && charges.iter().all(Option::is_none)
+        && *kept_timer == blank.kept_timer
+        && *default_timer == blank.default_timer
+        && *default_handling == blank.default_handling
+        && *called == blank.called
+}
+
 fn record_is_in_range(record: &Record) -> bool {
-    record.hold != Some(Point::Moved)
+    hold_is_in_range(record)
         && record.last < TIME_END
-        && record.armings.get(Point::Moved) != Some(Mode::Interrupted)
+        && armings_are_in_range(record)
         && record
             .charges
             .iter()
@@ -150,6 +180,24 @@ fn record_is_in_range(record: &Record) -> bool {
         && record.kept_timer <= LONGEST_TIMER
         && DEFAULT_TIMERS.contains(&record.default_timer)
         && number_is_in_range(&record.called)
+}
+
+/// A call is held where it was triggered, or at a point that can interrupt it.
+fn hold_is_in_range(record: &Record) -> bool {
+    match record.hold {
+        None | Some(Hold::Trigger) => true,
+        Some(Hold::At(part)) => record.call_kind.can_arm(part, Mode::Interrupted),
+    }
+}
+
+fn armings_are_in_range(record: &Record) -> bool {
+    let can_arm = |part, mode| record.call_kind.can_arm(part, mode);
+    Part::ALL.into_iter().all(|part| {
+        record
+            .armings
+            .get(part)
+            .is_none_or(|mode| can_arm(part, mode))
+    })
 }
 
 /// The start is not later than the last time, so it is below 2^48 too.

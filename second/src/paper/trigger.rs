@@ -1,14 +1,19 @@
 //! Whether a Setup meets the criteria of a trigger profile.
 //!
-//! Document 01, section "Triggering (004)"; document 02, T-03.
+//! Document 01, section "Triggering (004)"; document 02, T-03 and T-04.
 
-use crate::paper::forms::{Number, Profile, Sense, Setup};
+use crate::paper::forms::{CallKind, Number, Profile, Sense, Setup};
 
-/// All present criteria must hold.
+/// All present criteria must hold; a terminating call has the services alone.
 pub fn triggers(profile: &Profile, setup: &Setup) -> bool {
-    number_holds(profile, setup)
-        && service_holds(profile, setup)
-        && forwarding_holds(profile, setup)
+    match setup.call_kind {
+        CallKind::Originating => {
+            number_holds(profile, setup)
+                && service_holds(profile, setup)
+                && forwarding_holds(profile, setup)
+        }
+        CallKind::Terminating => service_holds(profile, setup),
+    }
 }
 
 fn number_holds(profile: &Profile, setup: &Setup) -> bool {

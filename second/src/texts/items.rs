@@ -13,8 +13,12 @@ use crate::paper::forms::{kind, Operation, Reader};
 /// in capitals for values, in the order of the body's bytes. What is in brackets
 /// may be left out, and is zero then. Before `, ..` stands what is repeated
 /// behind the kind's name, with commas between.
-const FORMS: [(u8, &str); 17] = [
+const FORMS: [(u8, &str); 18] = [
     (kind::SETUP, "setup NUMBER service SERVICE [forwarded]"),
+    (
+        kind::TERMINATING_SETUP,
+        "terminating-setup NUMBER service SERVICE [forwarded]",
+    ),
     (kind::ROUTE_FAILURE, "route-failure cause CAUSE"),
     (kind::BUSY, "busy cause CAUSE"),
     (kind::NO_ANSWER, "no-answer"),
@@ -66,7 +70,7 @@ pub fn assemble_item(words: &[&str]) -> Result<(u8, Vec<u8>), String> {
         Some(entry) => assemble_entries(entry, behind)?,
         None => assemble_words("item", form, words)?,
     };
-    if *kind == kind::SETUP {
+    if is_setup(*kind) {
         service_before_digits(&mut body);
     }
     Ok((*kind, body))
@@ -76,7 +80,7 @@ pub fn assemble_item(words: &[&str]) -> Result<(u8, Vec<u8>), String> {
 pub fn body_text(kind: u8, body: &[u8]) -> Option<String> {
     let form = form_of(kind)?;
     let mut body = body.to_vec();
-    if kind == kind::SETUP {
+    if is_setup(kind) {
         service_after_digits(&mut body);
     }
     let mut reader = Reader(&body);
@@ -103,6 +107,11 @@ pub fn operation_name(operation: &Operation) -> &'static str {
         Operation::Abort => kind::ABORT,
     };
     form_of(kind).map_or("", name_in)
+}
+
+/// Both kinds have the same body.
+fn is_setup(kind: u8) -> bool {
+    [kind::SETUP, kind::TERMINATING_SETUP].contains(&kind)
 }
 
 fn form_of(kind: u8) -> Option<&'static str> {

@@ -12,6 +12,7 @@
 //! 1000 call 7 setup 4/49151 service 17                            -> ok control 2 r2/1
 //! 1000 call 7 request-report 6/2 interrupted timer 30, 7/2 notify -> ok control 2
 //! 1001 call 8..64 setup 4/49151 service 17 forwarded              -> ok none - d1301
+//! 1002 call 65 terminating-setup 4/49151 service 17               -> ok control 12 r12/1
 //! bytes 00 0D                                                     -> refused 1
 //! ```
 //!

@@ -20,6 +20,8 @@ fn kinds_there_and_back() {
     let text = "profile continue 120 inhibiting 4/491 length 7 8 service 17 forwarding enabling
 0 call 0 setup 0/0123456789*#abc service 255
 1 call 1 setup 127/1 service 0 forwarded
+1 call 1 terminating-setup 0/0123456789*#abc service 255
+1 call 1 terminating-setup 127/1 service 0 forwarded
 2 call 2 route-failure cause 0
 3 call 3 busy cause 127
 4 call 4 no-answer
@@ -47,6 +49,7 @@ fn malformed_items_can_be_written() {
         "0 call 1 clear leg 3 cause 200",
         "0 call 1 apply-charging leg 0 period 0",
         "0 call 1 setup 200/ service 1",
+        "0 call 1 terminating-setup 200/ service 1",
         "0 call 1 connect 4/0123456789012345",
         "0 call 1 request-report",
     ] {
@@ -96,6 +99,8 @@ fn malformed_profiles() {
 fn nearest_kind() {
     for (word, nearest) in [
         ("settup", "(the nearest is setup)"),
+        ("terminating-settup", "(the nearest is terminating-setup)"),
+        ("terminatingsetup", "(the nearest is terminating-setup)"),
         ("anwser", "(the nearest is answer)"),
         ("noanswer", "(the nearest is no-answer)"),
         ("moved.", "(the nearest is moved)"),
