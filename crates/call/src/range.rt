@@ -62,7 +62,7 @@ fn is_moved_in_range(a: [Arming; 10]) -> bool
     !armings::is_mode(moved, Mode::Interrupted)
 }
 
-// The hold and the armings. (Of thirty forms that were measured this one costs the check of a slot least: an arming that is read by itself at another place breaks up the ten, which the check of a free slot reads at once.)
+// The hold and the armings. (How this is written decides what the check of a slot costs: DECISIONS. An arming that is read by itself at another place breaks up the ten, which the check of a free slot reads at once.)
 fn points_in_range(bcsm: Bcsm, h: Hold, a: [Arming; 10]) -> bool
     ensures { λ b. ⌜ b ≡ (holdInRange (setOf bcsm) h && armingsInRange (setOf bcsm) a) ⌝ }
 {

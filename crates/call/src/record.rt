@@ -55,7 +55,7 @@ pub struct Number {
 }
 
 // The fields stand by their size, the largest first and the small enums side by side: a byte between two fields that belongs to none is copied apart, with every copy of a record.
-// A leg lies in four fields: the rules take it out and put it in (`leg_at`, `with_leg`, `made`). The armings stand in the order of the roles. (The order of the last ten is the one that was fastest of some thirty.)
+// A leg lies in four fields: the rules take it out and put it in (`leg_at`, `with_leg`, `made`). The armings stand in the order of the roles. (The order of the last ten is among the fastest of some thirty that were measured.)
 pub struct Record {
     pub last: Tenths,
     pub period1: Tenths,
