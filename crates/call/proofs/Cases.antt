@@ -1,4 +1,4 @@
--- Computed cases of a call by itself: document 01's listing example, its edges P2 to P10 ('Both sides of each edge') as far as one call shows them, its five slips, and refusals at their order edges. Beside them T-04's scenarios and readings, and P3, P4, P5, P9 and P10 of a terminating call.
+-- Computed cases of a call by itself: document 01's listing example, its edges P2 to P10 ('Both sides of each edge') as far as one call shows them, its five slips, and refusals at their order edges. Beside them P3, P4, P5, P9 and P10 of a terminating call, and the scenarios and readings of T-04 and, for both kinds of call, of T-05.
 -- `runs` is a list of runs and the answer to the last item of each: the one statement over P1 to P10 takes it up.
 use Prim.Native.Nat.{ℕ}
 use Prim.Native.String.{String}
@@ -8,6 +8,7 @@ use mathlib.Core.List.{List, [], _∷_, _++_, map, flatten}
 use mathlib.Core.Option.{Option, none, some}
 use lib.ListN.{length, set}
 use Rattle.forms.specs.Bytes.{all, contains, leads, same}
+use Rattle.forms.specs.Fields.{legNumber}
 use Rattle.forms.specs.Item.{itemBytes, itemInRange, restAt, bodyFrom, bodyOf, itemOf, isItem, readItem, entryBytes, entryOf}
 use Rattle.forms.specs.Profile.{fieldsOf, profileBytes, profileInRange, numbersAt, numbersEnd, viewAt, profileOf, isProfile, someMatches}
 use Rattle.forms.proofs.Cases.{p2}
@@ -101,8 +102,14 @@ setupFor b profile service forwarded = itemWith profile 1000 (B.Setup b 4 servic
 abbrev connect : ℕ → Input
 connect t = itemWith plain t (B.Connect 4 2) (4 ∷ 6 ∷ [])
 
+abbrev chargeAt : ℕ → Leg → ℕ → Input
+chargeAt t leg period = item t (B.ApplyCharging leg (record { 0 = period }))
+
 abbrev charge : Leg → ℕ → Input
-charge leg period = item 1000 (B.ApplyCharging leg (record { 0 = period }))
+charge = chargeAt 1000
+
+abbrev clear : ℕ → Leg → Input
+clear t leg = item t (B.Clear leg 16)
 
 -- an entry: point, leg, mode, timer
 abbrev entry : ℕ → ℕ → ℕ → ℕ → List ℕ
@@ -113,10 +120,13 @@ arm t es = itemWith plain t (B.RequestReport (length es)) (flatten es)
 
 -- ---- answers, as the listing shows them
 
--- a detection point, as the listing shows it
+-- a detection point, as the listing shows it; and an entry for it, without a timer
 infixr 75 _╱_
 abbrev _╱_ : ℕ → Leg → Point
 number ╱ leg = record { leg = leg; number = number }
+
+abbrev inMode : Point → ℕ → List ℕ
+inMode q mode = entry (q .number) (legNumber (q .leg)) mode 0
 
 abbrev ok : Relationship → Suspension → Reports → Deadline → Bool → Answer
 ok relationship suspension reports deadline over = Accepted (record { relationship = relationship; suspension = suspension; reports = reports; deadline = deadline; over = over })
@@ -152,7 +162,10 @@ at12 = stays (12 ╱ One)
 abbrev routes : Relationship → ℕ → Answer
 routes relationship t = ok relationship S.None silent (D.At (record { 0 = t })) false
 
--- "ok none - c2=600", "ok none - c2=123 over"; "ok none - n10/1 over"
+-- "ok none - c1=250 over"; "ok none - c2=600", "ok none - c2=123 over"; "ok none - n10/1 over"
+abbrev bills1 : ℕ → Answer
+bills1 n = ok R.None S.None (reports None (elapsed n) C.None) D.None true
+
 abbrev bills2 : ℕ → Bool → Answer
 bills2 n over = ok R.None S.None (reports None C.None (elapsed n)) D.None over
 
@@ -201,13 +214,13 @@ p4 b = along (answered b) (item 5599 (B.PeriodOver Two) ▸ Refused 14 ∷ item 
 
 -- P5 Clear of leg 2 at 5123 reports 123, at 5700 reports 600
 abbrev p5 : Bcsm → List Case
-p5 b = along (answered b) (item 5123 (B.Clear Two 16) ▸ bills2 123 true ∷ []) ++ along (answered b) (item 5700 (B.Clear Two 16) ▸ bills2 600 true ∷ [])
+p5 b = along (answered b) (clear 5123 Two ▸ bills2 123 true ∷ []) ++ along (answered b) (clear 5700 Two ▸ bills2 600 true ∷ [])
 
 -- P9 Busy leaves Abandon armed: Clear of leg 1 notifies it
 abbrev p9 : Bcsm → ℕ → ℕ → List Case
 p9 b busy abandon = along (begun b)
     (arm 1000 (entry busy 2 0 0 ∷ entry abandon 1 1 0 ∷ []) ▸ stays (trigger b) ∷ go ▸ routes R.Control 2200
-    ∷ item 2000 (B.Busy 17) ▸ interrupts (busy ╱ Two) ∷ item 2010 (B.Clear One 16) ▸ ends (Notification (abandon ╱ One)) ∷ [])
+    ∷ item 2000 (B.Busy 17) ▸ interrupts (busy ╱ Two) ∷ clear 2010 One ▸ ends (Notification (abandon ╱ One)) ∷ [])
 
 -- P10 timer 2047 accepted, 2048 is 11
 abbrev p10 : Bcsm → ℕ → List Case
@@ -219,6 +232,55 @@ abbrev follows : Bcsm → ℕ → ℕ → ℕ → ℕ → Relationship → List 
 follows b busy moved midCall leg relationship = along (begun b)
     (arm 1000 (entry busy 2 0 0 ∷ entry moved leg 1 0 ∷ entry midCall leg 1 0 ∷ []) ▸ stays (trigger b) ∷ go ▸ routes R.Control 2200
     ∷ item 2000 (B.Busy 17) ▸ interrupts (busy ╱ Two) ∷ connect 2010 ▸ routes relationship 3210 ∷ [])
+
+-- T-05's `base`: held at Answer at 1100, charges of both legs since then
+abbrev base : Bcsm → Point → List (List ℕ) → List Input
+base b answer es = begun b ++ (arm 1000 (inMode answer 0 ∷ es) ∷ charge One 600 ∷ charge Two 600 ∷ go ∷ item 1100 B.Answer ∷ [])
+
+-- armed by these entries; answered at 1100, not held
+abbrev talking : Bcsm → List (List ℕ) → List Input
+talking b es = begun b ++ (arm 1000 es ∷ go ∷ item 1100 B.Answer ∷ [])
+
+-- T-05, the called party hangs up while the call is held: the points of Answer, Mid-call and Seized, and the number of Disconnect
+abbrev hangsUp : Bcsm → Point → Point → Point → ℕ → List Case
+hangsUp b answer midCall seized disconnect =
+    -- its scenarios: unarmed, and a follow-on call; in mode 1, then Continue; in mode 0, then the caller hangs up too
+    along (begun b)
+    (arm 1000 (inMode answer 0 ∷ inMode (disconnect ╱ One) 1 ∷ inMode midCall 1 ∷ []) ▸ stays (trigger b)
+    ∷ charge One 600 ▸ stays (trigger b)
+    ∷ charge Two 600 ▸ stays (trigger b)
+    ∷ go ▸ routes R.Control 2200
+    ∷ item 1100 B.Answer ▸ interrupts answer
+    ∷ connect 1150 ▸ Refused 12
+    ∷ clear 1200 Two ▸ ok R.Control (S.At answer) (reports None C.None (elapsed 100)) D.None false
+    ∷ clear 1200 Two ▸ Refused 12
+    ∷ connect 1220 ▸ routes R.Monitor 2420
+    ∷ item 1300 B.Answer ▸ says R.Monitor S.None None
+    ∷ clear 1350 Two ▸ bills1 250
+    ∷ [])
+    ++ along (base b answer (inMode (disconnect ╱ Two) 1 ∷ []))
+    (clear 1200 Two ▸ ok R.Control (S.At answer) (reports (Notification (disconnect ╱ Two)) C.None (elapsed 100)) D.None false ∷ item 1250 B.Continue ▸ bills1 150 ∷ [])
+    ++ along (base b answer (inMode (disconnect ╱ Two) 0 ∷ []))
+    (clear 1200 Two ▸ ok R.Control (S.At (disconnect ╱ Two)) (reports (Interrupting (disconnect ╱ Two)) C.None (elapsed 100)) D.None false ∷ clear 1250 One ▸ bills1 150 ∷ [])
+    -- "held, but not active": 12, at the trigger and at Seized
+    ++ along (begun b) (clear 1000 Two ▸ Refused 12 ∷ [])
+    ++ along (begun b ++ (arm 1000 (inMode seized 0 ∷ []) ∷ go ∷ item 1100 B.Seized ∷ [])) (clear 1100 Two ▸ Refused 12 ∷ [])
+    -- "leg 1 absent already": accepted, armed in mode 0 and unarmed; then modes 0 and 1 are 12, and no Connect
+    ++ along (talking b (inMode (disconnect ╱ One) 0 ∷ inMode (disconnect ╱ Two) 0 ∷ []))
+    (clear 1200 One ▸ interrupts (disconnect ╱ One) ∷ clear 1200 Two ▸ interrupts (disconnect ╱ Two) ∷ clear 1200 Two ▸ Refused 12 ∷ item 1200 B.Continue ▸ ends None ∷ [])
+    ++ along (talking b (inMode (disconnect ╱ One) 0 ∷ []) ++ (clear 1200 One ∷ []))
+    (clear 1200 Two ▸ stays (disconnect ╱ One) ∷ arm 1200 (inMode answer 0 ∷ []) ▸ Refused 12 ∷ arm 1200 (inMode (disconnect ╱ Two) 1 ∷ []) ▸ Refused 12
+    ∷ connect 1200 ▸ Refused 12 ∷ arm 1200 (inMode (disconnect ╱ Two) 2 ∷ []) ▸ stays (disconnect ╱ One) ∷ item 1200 B.Release ▸ ends None ∷ [])
+    -- held at Mid-call it stays there; any point can be armed, a charge of leg 1 starts at once, one of leg 2 is 12; Abort ends the call unreported
+    ++ along (talking b (inMode midCall 0 ∷ []))
+    (item 1150 (B.MidCall 1) ▸ interrupts midCall ∷ clear 1200 Two ▸ stays midCall ∷ arm 1200 (inMode answer 0 ∷ []) ▸ stays midCall ∷ chargeAt 1210 Two 30 ▸ Refused 12 ∷ chargeAt 1210 One 30 ▸ stays midCall
+    ∷ item 1239 (B.PeriodOver One) ▸ Refused 14 ∷ item 1240 (B.PeriodOver One) ▸ ok R.Control (S.At midCall) (reports None (elapsed 30) C.None) D.None false
+    ∷ chargeAt 1240 One 30 ▸ stays midCall ∷ item 1250 B.Abort ▸ ends None ∷ [])
+    -- the points of leg 1 stay armed
+    ++ along (base b answer (inMode (disconnect ╱ One) 1 ∷ []) ++ (clear 1200 Two ∷ [])) (clear 1250 One ▸ ok R.None S.None (reports (Notification (disconnect ╱ One)) (elapsed 150) C.None) D.None true ∷ [])
+    -- the caller hangs up while held, in mode 1 and unarmed: "still over, with both charges"
+    ++ along (base b answer (inMode (disconnect ╱ One) 1 ∷ [])) (clear 1200 One ▸ ok R.None S.None (reports (Notification (disconnect ╱ One)) (elapsed 100) (elapsed 100)) D.None true ∷ [])
+    ++ along (base b answer []) (clear 1200 One ▸ ok R.None S.None (reports None (elapsed 100) (elapsed 100)) D.None true ∷ [])
 
 abbrev pub runs : List Case
 runs =
@@ -269,7 +331,7 @@ runs =
     ∷ arm 1300 (entry 15 2 1 0 ∷ []) ▸ stays (14 ╱ Two)
     ∷ connect 1310 ▸ routes R.Monitor 2510
     ∷ item 1400 B.Answer ▸ says R.None S.None (Notification (15 ╱ Two))
-    ∷ item 1500 (B.Clear One 16) ▸ ends None
+    ∷ clear 1500 One ▸ ends None
     ∷ [])
     ++ along (begun Terminating)
     (arm 1000 (entry 27 2 1 0 ∷ entry 15 2 1 0 ∷ []) ▸ at12 ∷ go ▸ routes R.Monitor 2200 ∷ item 5000 B.Answer ▸ says R.None S.None (Notification (15 ╱ Two)) ∷ [])
@@ -303,6 +365,9 @@ runs =
     ∷ setupFor Terminating service5 5 true ▸ interrupts (12 ╱ One) ∷ [])
     -- document 01's profile of a Setup: malformed is 2, for kind 11 too
     ++ along [] (setup Terminating [] (4 ∷ []) ▸ Refused 2 ∷ [])
+    -- T-05
+    ++ hangsUp Originating (7 ╱ Two) (8 ╱ One) (19 ╱ Two) 9
+    ++ hangsUp Terminating (15 ╱ Two) (16 ╱ Two) (27 ╱ Two) 17
     -- slip, a charge clock started at the grant: none runs before the Answer
     ++ along (granted Originating) (item 5600 (B.PeriodOver Two) ▸ Refused 12 ∷ [])
     -- slip, an unarmed Answer that disarms nothing
@@ -336,7 +401,7 @@ runs =
     -- 12 before 13: leg 1 absent, a charge pending on leg 2
     ++ along held
     (arm 1000 (entry 10 1 0 0 ∷ []) ▸ at2 ∷ charge Two 600 ▸ at2 ∷ charge Two 600 ▸ Refused 13
-    ∷ item 1000 (B.Clear One 16) ▸ interrupts (10 ╱ One) ∷ charge Two 600 ▸ Refused 12 ∷ [])
+    ∷ clear 1000 One ▸ interrupts (10 ╱ One) ∷ charge Two 600 ▸ Refused 12 ∷ [])
     -- triggering: inhibiting, a length, a service, forwarded calls only
     ++ along [] (setup Originating (stored 2) (4 ∷ 9 ∷ 1 ∷ 5 ∷ []) ▸ routes R.None 2200 ∷ [])
     ++ along [] (setup Originating (stored 2) (4 ∷ 9 ∷ []) ▸ triggered ∷ [])
@@ -349,9 +414,9 @@ runs =
     -- two charges, of leg 1 first: at the end of the call, and for a caller who hangs up while the call is held
     ++ along held
     (charge One 100 ▸ at2 ∷ charge Two 600 ▸ at2 ∷ go ▸ routes R.Monitor 2200 ∷ item 5000 B.Answer ▸ says R.Monitor S.None None
-    ∷ item 5123 (B.Clear One 16) ▸ ok R.None S.None (reports None (elapsed 100) (elapsed 123)) D.None true ∷ [])
+    ∷ clear 5123 One ▸ ok R.None S.None (reports None (elapsed 100) (elapsed 123)) D.None true ∷ [])
     ++ along held
-    (charge One 100 ▸ at2 ∷ charge Two 600 ▸ at2 ∷ item 1000 (B.Clear One 16) ▸ ok R.None S.None (reports None (elapsed 0) (elapsed 0)) D.None true ∷ [])
+    (charge One 100 ▸ at2 ∷ charge Two 600 ▸ at2 ∷ clear 1000 One ▸ ok R.None S.None (reports None (elapsed 0) (elapsed 0)) D.None true ∷ [])
     -- Release with a charge; a charge lost at Busy, then Continue without leg 2; Period over while held; Activity test
     ++ along held
     (arm 1000 (entry 9 2 0 0 ∷ []) ▸ at2 ∷ charge Two 600 ▸ at2 ∷ go ▸ routes R.Control 2200 ∷ item 5000 B.Answer ▸ says R.Control S.None None
@@ -369,10 +434,10 @@ runs =
     -- mode 2 disarms; 50 takes no mode 0; any point can be armed without leg 2, none without leg 1, but for mode 2
     ++ along held (arm 1000 (entry 5 2 0 0 ∷ []) ▸ at2 ∷ arm 1000 (entry 5 2 2 0 ∷ []) ▸ at2 ∷ arm 1000 (entry 50 1 0 0 ∷ []) ▸ Refused 11 ∷ go ▸ routes R.None 2200 ∷ [])
     ++ along held
-    (arm 1000 (entry 9 2 0 0 ∷ []) ▸ at2 ∷ go ▸ routes R.Control 2200 ∷ item 5000 B.Answer ▸ says R.Control S.None None ∷ item 5100 (B.Clear Two 16) ▸ interrupts (9 ╱ Two)
+    (arm 1000 (entry 9 2 0 0 ∷ []) ▸ at2 ∷ go ▸ routes R.Control 2200 ∷ item 5000 B.Answer ▸ says R.Control S.None None ∷ clear 5100 Two ▸ interrupts (9 ╱ Two)
     ∷ arm 5100 (entry 4 2 1 0 ∷ []) ▸ stays (9 ╱ Two) ∷ [])
     ++ along held
-    (arm 1000 (entry 10 1 0 0 ∷ []) ▸ at2 ∷ item 1000 (B.Clear One 16) ▸ interrupts (10 ╱ One)
+    (arm 1000 (entry 10 1 0 0 ∷ []) ▸ at2 ∷ clear 1000 One ▸ interrupts (10 ╱ One)
     ∷ arm 1000 (entry 9 2 1 0 ∷ []) ▸ Refused 12 ∷ arm 1000 (entry 9 2 2 0 ∷ []) ▸ stays (10 ╱ One) ∷ [])
 
 pub cases : map lastAnswer runs ≡ map (λ (c : Case). c .answer) runs

@@ -35,7 +35,7 @@ use Rattle.call.specs.Record.{places, leg, charge, noCharge, waiting, ru
 use Rattle.call.specs.Charging.{answeredAs, answered, granted}
 use Rattle.call.specs.Answers.{remains, firstOf}
 use Rattle.call.specs.Request.{entriesOf, named, isModeFor, isTimerFor, isGood, seenAfter, areGood, noneSeen, keptAfter, armedBy, armedWith}
-use Rattle.call.specs.Events.{holdAfter, legAfter, endsCall, metRecord, met}
+use Rattle.call.specs.Events.{roleOf, holdAfter, legAfter, endsCall, metRecord, met}
 use Rattle.call.specs.Operations.{resumed, continued, connected, dropped, aborted, charged}
 use Rattle.call.specs.Kind.{kindOf, ifSetup}
 use Rattle.call.specs.Range.{chargeInRangeAs, chargeInRange, holdInRange, armingsInRange, placesInRange, numberInRange, inRangeOf, recordInRange}
@@ -176,8 +176,8 @@ disarmed-fits dp ps a h =
     calm-or false m k = k
 
 -- a role that was armed is a point of the call, and the call is not held at Moved
-hold-fits : (dp : PointSet) (p : Role) (a : List Arming) → armingsInRange dp a ≡ true → holdInRange dp (holdAfter p (modeAt p a)) ≡ true
-hold-fits dp p a h = go (modeAt p a) refl
+hold-fits : (dp : PointSet) (p : Role) (a : List Arming) (earlier : Hold) → armingsInRange dp a ≡ true → holdInRange dp earlier ≡ true → holdInRange dp (holdAfter p (modeAt p a) earlier) ≡ true
+hold-fits dp p a earlier h k = go (modeAt p a) refl
   where
     point : (b : Bool) → (b || false) ≡ true → b ≡ true
     point true k = refl
@@ -187,9 +187,9 @@ hold-fits dp p a h = go (modeAt p a) refl
     elsewhere true e k = absurd (let z : false ≡ true = rw (← same-role p role.Moved e, k) at (calm dp a h) in false≢true z)
     elsewhere false e k = refl
 
-    go : (m : Mode) → modeAt p a ≡ m → holdInRange dp (holdAfter p m) ≡ true
-    go mode.None e = refl
-    go mode.Notify e = refl
+    go : (m : Mode) → modeAt p a ≡ m → holdInRange dp (holdAfter p m earlier) ≡ true
+    go mode.None e = k
+    go mode.Notify e = k
     go mode.Interrupted e = rw (point (isIn dp p) (rw e at (in-set dp a h p))) (elsewhere (isRole p role.Moved) refl e)
 
 -- 50 takes no mode 0
@@ -263,7 +263,7 @@ number-fits n c ds h =
 -- what an item in range asks: a number or a period in range
 abbrev asksFit : Kind → List ℕ → Bool
 asksFit (kind.Setup b nature service forwarded count) rest = numberInRange (numberOf nature count rest)
-asksFit (kind.Event p) rest = true
+asksFit (kind.Event e) rest = true
 asksFit (kind.PeriodOver l) rest = true
 asksFit (kind.RequestReport n) rest = true
 asksFit kind.Continue rest = true
@@ -273,24 +273,24 @@ asksFit (kind.ApplyCharging l period) rest = isPeriod period
 asksFit kind.ActivityTest rest = true
 asksFit kind.Abort rest = true
 
-body-fits : (x : Body) (s : Stage) (rest : List ℕ) → (allInRange (formOf x .fields) && restInRange (formOf x .rest) rest) ≡ true → asksFit (kindOf x s) rest ≡ true
-body-fits (body.Setup b n v w c) s rest h = number-fits n c rest h
-body-fits (body.RouteFailure c) s rest h = refl
-body-fits (body.Busy c) s rest h = refl
-body-fits body.NoAnswer s rest h = refl
-body-fits body.Seized s rest h = refl
-body-fits body.Answer s rest h = refl
-body-fits (body.MidCall d) s rest h = refl
-body-fits body.Moved s rest h = refl
-body-fits (body.Clear l c) s rest h = refl
-body-fits (body.PeriodOver l) s rest h = refl
-body-fits (body.RequestReport c) s rest h = refl
-body-fits body.Continue s rest h = refl
-body-fits (body.Connect n c) s rest h = number-fits n c rest h
-body-fits body.Release s rest h = refl
-body-fits (body.ApplyCharging l p) s rest h = and-left (isPeriod p) true (and-left (isPeriod p && true) (eqb (length rest) 0) h)
-body-fits body.ActivityTest s rest h = refl
-body-fits body.Abort s rest h = refl
+body-fits : (x : Body) (rest : List ℕ) → (allInRange (formOf x .fields) && restInRange (formOf x .rest) rest) ≡ true → asksFit (kindOf x) rest ≡ true
+body-fits (body.Setup b n v w c) rest h = number-fits n c rest h
+body-fits (body.RouteFailure c) rest h = refl
+body-fits (body.Busy c) rest h = refl
+body-fits body.NoAnswer rest h = refl
+body-fits body.Seized rest h = refl
+body-fits body.Answer rest h = refl
+body-fits (body.MidCall d) rest h = refl
+body-fits body.Moved rest h = refl
+body-fits (body.Clear l c) rest h = refl
+body-fits (body.PeriodOver l) rest h = refl
+body-fits (body.RequestReport c) rest h = refl
+body-fits body.Continue rest h = refl
+body-fits (body.Connect n c) rest h = number-fits n c rest h
+body-fits body.Release rest h = refl
+body-fits (body.ApplyCharging l p) rest h = and-left (isPeriod p) true (and-left (isPeriod p && true) (eqb (length rest) 0) h)
+body-fits body.ActivityTest rest h = refl
+body-fits body.Abort rest h = refl
 
 -- ---- steps: what is left of an accepted item at t, where the call is not over
 
@@ -321,11 +321,11 @@ module _ (dp : PointSet) (r : Record) (t : Tenths) (f : Fits dp r) (o : isClockR
   unfolding met
   met-left p =
       let m = modeAt p (r .armings) in
-      either dp (endsCall p m) _ _ t refl
+      either dp (endsCall p m (r .hold)) _ _ t refl
       (goes dp (metRecord dp r p m t) t (record {
         leg1 = leg-after-fits dp p One (legAt One r) (r .last) t (f .leg1) le;
         leg2 = leg-after-fits dp p Two (legAt Two r) (r .last) t (f .leg2) le;
-        hold = hold-fits dp p (r .armings) (f .armings);
+        hold = hold-fits dp p (r .armings) (r .hold) (f .armings) (f .hold);
         last = o;
         armings = disarmed-fits dp (disarms dp p) (r .armings) (f .armings);
         kept = f .kept;
@@ -369,7 +369,7 @@ module _ (dp : PointSet) (fit : isPointSet dp ≡ true) (r : Record) (t : Tenths
 
   served-left : (k : Kind) → asksFit k rest ≡ true → firstOf (rowsOf dp r k t rest) ≡ Pass → LeftWell dp t (served dp r k t rest)
   served-left (kind.Setup b n s w c) a h = refl
-  served-left (kind.Event p) a h = met-left dp r t f o (in-time (kind.Event p) h) p
+  served-left (kind.Event e) a h = met-left dp r t f o (in-time (kind.Event e) h) (roleOf e (r .stage))
   served-left (kind.PeriodOver l) a h = let q = charged-fits dp r t f o (in-time (kind.PeriodOver l) h) l noCharge refl in goes dp _ t (q .0) (q .1)
   served-left (kind.RequestReport n) a h =
       let es = entriesOf n rest in
@@ -392,12 +392,12 @@ respond-in-left : (dp : PointSet) → isPointSet dp ≡ true → (r : Record) (i
 unfolding respondIn itemInRange
 respond-in-left dp fit r i rest h g =
     let t = i .time in
-    let k = kindOf (i .body) (r .stage) in
+    let k = kindOf (i .body) in
     let form = formOf (i .body) in
     let b = allInRange (form .fields) && restInRange (form .rest) rest in
     let o = and-right b (isClockReading t) g in
     on-guard (LeftWell dp t) (firstOf (row1Time t ∷ rowsOf dp r k t rest)) r (served dp r k t rest) (λ n. refl)
-    (λ e. served-left dp fit r t rest (fits dp r h) o k (body-fits (i .body) (r .stage) rest (and-left b (isClockReading t) g)) (passes (row1Time t .applies) 1 (firstOf (rowsOf dp r k t rest)) e .1))
+    (λ e. served-left dp fit r t rest (fits dp r h) o k (body-fits (i .body) rest (and-left b (isClockReading t) g)) (passes (row1Time t .applies) 1 (firstOf (rowsOf dp r k t rest)) e .1))
 
 -- by the points of its own kind, where that is the kind b
 by-kind : (b : Bcsm) (t : Tenths) (s : Stepped) → (isOver (s .answer) ≡ false → s .next .bcsm ≡ b) → LeftWell (setOf b) t s → isLeftWell t s ≡ true
@@ -447,11 +447,11 @@ profile-fits s h =
     field-at (fieldsOf p) 1 (and-left (allInRange (fieldsOf p)) (senseInRange (p .sense) (length (p .numbers) + length (p .lengths))) g)
 
 -- where it is set up, what its profile said being in range
-set-up-left : (i : Item) (rest : List ℕ) (o : Opening) → isDefaultTimer (o .timer) ≡ true → asksFit (kindOf (i .body) Analysing) rest ≡ true → isLeftWell (i .time) (setUpOf i rest o) ≡ true
+set-up-left : (i : Item) (rest : List ℕ) (o : Opening) → isDefaultTimer (o .timer) ≡ true → asksFit (kindOf (i .body)) rest ≡ true → isLeftWell (i .time) (setUpOf i rest o) ≡ true
 unfolding setUpOf
 set-up-left i rest o h a =
     on-guard (λ s. isLeftWell (i .time) s ≡ true) (firstOf (row1Time (i .time) ∷ [])) _ _ (λ n. refl)
-    (λ e. go (not-false (isClockReading (i .time)) (no-row (row1Time (i .time) ∷ []) e 0)) (as-setup (kindOf (i .body) Analysing)) a)
+    (λ e. go (not-false (isClockReading (i .time)) (no-row (row1Time (i .time) ∷ []) e 0)) (as-setup (kindOf (i .body))) a)
   where
     go : isClockReading (i .time) ≡ true → {k : Kind} → AsSetup k → asksFit k rest ≡ true
         → isLeftWell (i .time) (ifSetup k (λ b n v w c. begun b (o .triggered) (o .timer) (o .handling) (numberOf n c rest) (i .time)) notOpen) ≡ true
@@ -464,5 +464,5 @@ open-left i rest s = open-comes i rest s (λ q. isLeftWell (i .time) q ≡ true)
   where
     go : itemInRange i rest ≡ true → {e : Early} → Comes i rest s e → isLeftWell (i .time) (openedBy i rest e) ≡ true
     go h (refuses a b) = refl
-    go h (opens o m a p f) = set-up-left i rest o (rw m (profile-fits s p)) (body-fits (i .body) Analysing rest (and-left (allInRange (formOf (i .body) .fields) && restInRange (formOf (i .body) .rest) rest) (isClockReading (i .time)) h))
+    go h (opens o m a p f) = set-up-left i rest o (rw m (profile-fits s p)) (body-fits (i .body) rest (and-left (allInRange (formOf (i .body) .fields) && restInRange (formOf (i .body) .rest) rest) (isClockReading (i .time)) h))
     go h (Comes.passes a) = refl

@@ -38,6 +38,11 @@ pub on-cond : {A : Type 0} (P : A → Type 0) (b : Bool) (x y : A) → P x → P
 on-cond P true x y h g = h
 on-cond P false x y h g = g
 
+-- the same, where it matters which is taken
+pub by-cond : {A : Type 0} (P : A → Type 0) (b : Bool) (x y : A) → (b ≡ true → P x) → (b ≡ false → P y) → P (cond b x y)
+by-cond P true x y h g = h refl
+by-cond P false x y h g = g refl
+
 -- what holds of each refusal, and of what passes, holds of what is guarded
 pub on-guard : (P : Stepped → Type 0) (c : Check) (r : Record) (s : Stepped) → ((n : ℕ) → P (refused r n)) → (c ≡ Pass → P s) → P (guarded c r s)
 on-guard P Pass r s f h = h refl
@@ -225,14 +230,18 @@ pub charged-on : (next r : Record) (l : Leg) (c : Charge) (t : Tenths) (reports 
     → goesOn (setOf (next .bcsm)) next reports deadline ≡ goesOn (setOf (r .bcsm)) (charged r l c t) reports deadline
 charged-on next r l c t reports deadline e = rw e (ap (λ b. goesOn (setOf b) (charged r l c t) reports deadline) (charged-keeps-kind r l c t))
 
-pub armed-keeps : (dp : PointSet) {A : Type 0} (f : Record → A) → ((r : Record) (a : List Arming) (k : Seconds) → f (armedAs r a k) ≡ f r) → (es : List Entry) (r : Record) → f (armedWith dp r es) ≡ f r
+-- what holds of a record whatever its armings and its kept timer are
+pub armed-holds : (dp : PointSet) (P : Record → Type 0) → ((r : Record) (a : List Arming) (k : Seconds) → P r → P (armedAs r a k)) → (es : List Entry) (r : Record) → P r → P (armedWith dp r es)
 unfolding armedWith
-armed-keeps dp f h [] r = refl
-armed-keeps dp f h (e ∷ es) r = armed-keeps dp f h es (armedBy r (named dp e) e) ∙ go (named dp e)
+armed-holds dp P h [] r p = p
+armed-holds dp P h (e ∷ es) r p = armed-holds dp P h es (armedBy r (named dp e) e) (go (named dp e))
   where
-    go : (x : Named) → f (armedBy r x e) ≡ f r
-    go Unknown = refl
-    go (Known p) = h r _ _
+    go : (x : Named) → P (armedBy r x e)
+    go Unknown = p
+    go (Known q) = h r _ _ p
+
+pub armed-keeps : (dp : PointSet) {A : Type 0} (f : Record → A) → ((r : Record) (a : List Arming) (k : Seconds) → f (armedAs r a k) ≡ f r) → (es : List Entry) (r : Record) → f (armedWith dp r es) ≡ f r
+armed-keeps dp f h es r = armed-holds dp (λ s. f s ≡ f r) (λ s a k e. h s a k ∙ e) es r refl
 
 pub entries-keep-kind : (dp : PointSet) (r : Record) (es : List Entry) → armedWith dp r es .bcsm ≡ r .bcsm
 entries-keep-kind dp r es = armed-keeps dp (λ s. s .bcsm) (λ s a k. refl) es r

@@ -8,7 +8,6 @@ use borrow.Author.Tests.{eqb-true}
 use Rattle.forms.specs.Bytes.{all, contains}
 use Rattle.forms.proofs.ByteLaws.{and-left, and-right}
 use Rattle.call.specs.Types.{Item, Tenths, PointSet, Record, Answer, Stepped, Kind, Opening, Early}
-use Rattle.call.specs.declared.stages.Stage.the-variants.{Analysing}
 use Rattle.call.specs.declared.answers.Answer.the-variants.{Accepted, Refused}
 use Rattle.call.specs.declared.kind.Kind.the-variants as kind
 use Rattle.forms.specs.Profile.{isRelease}
@@ -16,7 +15,7 @@ use Rattle.call.specs.Armings.{modeAt}
 use Rattle.call.specs.Points.{setOf}
 use Rattle.call.specs.Record.{isPresent, isHeld, isTrigger, blank, numberOf}
 use Rattle.call.specs.Answers.{Row, isAccepted, firstOf, guarded}
-use Rattle.call.specs.Events.{endsCall, met}
+use Rattle.call.specs.Events.{roleOf, endsCall, met}
 use Rattle.call.specs.Operations.{dropped, continued, aborted}
 use Rattle.call.specs.Kind.{kindOf, ifSetup}
 use Rattle.call.specs.Refusals.{row1, row1Time, row3, rowsOf}
@@ -85,7 +84,7 @@ module _ (dp : PointSet) (r : Record) (t : Tenths) (rest : List ℕ) where
   served-one : (k : Kind) → (all (λ n. contains n respondNumbers) (numbers (rowsOf dp r k t rest)) ≡ true) × OneOf respondNumbers (served dp r k t rest)
   unfolding all contains met aborted
   served-one (kind.Setup b n s w c) = (refl, refl)
-  served-one (kind.Event p) = (refl, either (endsCall p (modeAt p (r .armings))) _ _ refl refl)
+  served-one (kind.Event e) = let p = roleOf e (r .stage) in (refl, either (endsCall p (modeAt p (r .armings)) (r .hold)) _ _ refl refl)
   served-one (kind.PeriodOver l) = (refl, refl)
   served-one (kind.RequestReport n) = (refl, refl)
   served-one kind.Continue = (refl, continued-one dp r t)
@@ -99,7 +98,7 @@ module _ (r : Record) (i : Item) (rest : List ℕ) where
   pub respond-numbers : OneOf respondNumbers (respondOf r i rest)
   unfolding respondIn all contains
   respond-numbers =
-      let k = kindOf (i .body) (r .stage) in
+      let k = kindOf (i .body) in
       let q = served-one (setOf (r .bcsm)) r (i .time) rest k in
       guarded-one respondNumbers (row1Time (i .time) ∷ rowsOf (setOf (r .bcsm)) r k (i .time) rest) r (served (setOf (r .bcsm)) r k (i .time) rest) (q .0) (q .1)
 
@@ -117,7 +116,7 @@ setUpNumbers = 1 ∷ 4 ∷ []
 
 pub set-up-numbers : (i : Item) (rest : List ℕ) (o : Opening) → OneOf setUpNumbers (setUpOf i rest o)
 unfolding setUpOf all contains
-set-up-numbers i rest o = guarded-one setUpNumbers (row1Time (i .time) ∷ []) blank _ refl (go (as-setup (kindOf (i .body) Analysing)))
+set-up-numbers i rest o = guarded-one setUpNumbers (row1Time (i .time) ∷ []) blank _ refl (go (as-setup (kindOf (i .body))))
   where
     go : {k : Kind} → AsSetup k → OneOf setUpNumbers (ifSetup k (λ b n v w c. begun b (o .triggered) (o .timer) (o .handling) (numberOf n c rest) (i .time)) notOpen)
     go (setup b n v w c) = accepted-one setUpNumbers (begun b (o .triggered) (o .timer) (o .handling) (numberOf n c rest) (i .time) .answer) (begun-opens b (o .triggered) (o .timer) (o .handling) (numberOf n c rest) (i .time) .0)

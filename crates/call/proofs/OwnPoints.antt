@@ -2,7 +2,7 @@
 use Prim.Native.Nat.{ℕ}
 use mathlib.Core.Path.{_≡_, refl, sym, ap, subst, _∙_}
 use native.Mathlib.Omega.{arith}
-use mathlib.Core.Bool.{Bool, true, false, cond, _&&_, _||_, or-true, true≢false, false≢true}
+use mathlib.Core.Bool.{Bool, true, false, cond, _&&_, _||_, or-true}
 use mathlib.Core.List.{List, [], _∷_}
 use mathlib.Core.Option.{Option, none, some}
 use lib.Dec.{eqb}
@@ -12,7 +12,6 @@ use Rattle.forms.specs.Item.{itemOf, restOf}
 use Rattle.forms.proofs.ByteLaws.{and-left, and-right}
 use Rattle.call.specs.Types.{Bcsm, Item, Seconds, Handling, Tenths, Number, Role, Point, PointSet, Named, Mode, Hold, Record, Suspension, Report, Answer, Check, Kind, Stepped, Opening}
 use Rattle.call.specs.declared.points.Named.the-variants.{Unknown, Known}
-use Rattle.call.specs.declared.stages.Stage.the-variants.{Analysing}
 use Rattle.call.specs.declared.refusals.Check.the-variants.{Pass, Fail}
 use Rattle.call.specs.declared.kind.Kind.the-variants as kind
 use Rattle.call.specs.declared.armings.Mode.the-variants as mode
@@ -35,7 +34,7 @@ use Rattle.call.specs.Alone.{unlessRefused, setupAlone, otherAlone, alon
 use Rattle.call.proofs.Laws.{on-cond, on-guard, no-row}
 use Rattle.call.proofs.PointLaws.{sets-fit, role-exactly}
 use Rattle.call.proofs.CallTheorems.{isOver, Does, refuses, meets, ends, goes, responds, kind-kept}
-use Rattle.call.proofs.SetupLaws.{AsSetup, setup, other, as-setup, on-set-up, on-open, open-kind}
+use Rattle.call.proofs.SetupLaws.{AsSetup, setup, other, as-setup, on-set-up, on-open, of-kind, open-kind}
 use Rattle.call.proofs.InRange.{fits}
 
 -- ---- the pairs of an answer
@@ -84,11 +83,11 @@ module _ (dp : PointSet) (fit : isPointSet dp ≡ true) where
   hold-own hold.Trigger k = trigger-belongs dp
   hold-own (hold.At p) k = point-belongs p (and-left (isIn dp p) _ k)
 
-  -- a met role's point is told, and held at, if it is armed
-  met-own : (p : Role) → isIn dp p ≡ true → (m : Mode) → (isOwnSuspension dp (suspensionOf dp (holdAfter p m)) && isOwnReport dp (eventReport dp p m)) ≡ true
-  met-own p on mode.None = refl
-  met-own p on mode.Interrupted = rw (point-belongs p on)
-  met-own p on mode.Notify = point-belongs p on
+  -- a met role's point is told, and held at, if it is armed; an earlier hold may stay
+  met-own : (p : Role) → isIn dp p ≡ true → (m : Mode) (earlier : Hold) → holdInRange dp earlier ≡ true → (isOwnSuspension dp (suspensionOf dp (holdAfter p m earlier)) && isOwnReport dp (eventReport dp p m)) ≡ true
+  met-own p on mode.None earlier k = rw (hold-own earlier k)
+  met-own p on mode.Interrupted earlier k = rw (point-belongs p on)
+  met-own p on mode.Notify earlier k = rw (hold-own earlier k) (point-belongs p on)
 
   respond-in-own : (r : Record) (i : Item) (rest : List ℕ) → holdInRange dp (r .hold) ≡ true → Own dp (respondIn dp r i rest)
   unfolding met
@@ -104,7 +103,8 @@ module _ (dp : PointSet) (fit : isPointSet dp ≡ true) where
       go (meets p t e) =
           let m = modeAt p (r .armings) in
           let on : isIn dp p ≡ true = and-right (metIn p (r .stage)) _ (and-left (metIn p (r .stage) && isIn dp p) (isPresent (legAt (pointIn dp p .leg) r .presence)) e) in
-          on-cond (Own dp) (endsCall p m) _ _ (and-right (isOwnSuspension dp (suspensionOf dp (holdAfter p m))) _ (met-own p on m)) (met-own p on m)
+          let own = met-own p on m (r .hold) k in
+          on-cond (Own dp) (endsCall p m (r .hold)) _ _ (and-right (isOwnSuspension dp (suspensionOf dp (holdAfter p m (r .hold)))) _ own) own
       go (ends s t) = refl
       go (goes next told d e f) = rw (hold-own (next .hold) (still (next .hold) (f .1)), e)
 
@@ -122,16 +122,16 @@ step-own r i rest =
     (λ e. respond-own r i rest (not-false (recordInRange r) (no-row (row1 i rest ∷ row3 r ∷ []) e 1)))
 
 -- a Setup of the kind b
-module _ (i : Item) (rest : List ℕ) (b : Bcsm) (n v : ℕ) (w : Bool) (c : ℕ) (is-setup : kindOf (i .body) Analysing ≡ kind.Setup b n v w c) where
+module _ (i : Item) (rest : List ℕ) (b : Bcsm) (n v : ℕ) (w : Bool) (c : ℕ) (is-setup : kindOf (i .body) ≡ kind.Setup b n v w c) where
   begun-own : (triggered : Bool) (timer : Seconds) (handling : Handling) (number : Number) (t : Tenths) → Own (setOf b) (begun b triggered timer handling number t)
   begun-own true timer handling number t = rw (trigger-belongs (setOf b))
   begun-own false timer handling number t = refl
 
   pub set-up-own : (o : Opening) → isOwn (setOf b) (setUpOf i rest o .answer) ≡ true
-  set-up-own = on-set-up i rest b n v w c is-setup (Own (setOf b)) (λ m. refl) begun-own
+  set-up-own = on-set-up i rest (Own (setOf b)) (λ m. refl) (of-kind i rest b n v w c is-setup (Own (setOf b)) begun-own)
 
   pub open-own : (s : List ℕ) → isOwn (setOf b) (openOf i rest s .answer) ≡ true
-  open-own = on-open i rest b n v w c is-setup (Own (setOf b)) (λ m. refl) begun-own
+  open-own = on-open i rest (Own (setOf b)) (λ m. refl) (of-kind i rest b n v w c is-setup (Own (setOf b)) begun-own)
 
 -- ---- a call by itself, with which demand 3 compares the table; whatever bytes it is fed
 
@@ -177,12 +177,12 @@ module _ (item profile : List ℕ) where
   -- and so does the answer that opens it
   pub opened-own : (kept : Record) → aloneStep none item profile .1 ≡ some kept → isOwn (setOf (kept .bcsm)) (aloneStep none item profile .0) ≡ true
   unfolding aloneStep
-  opened-own kept = go (firstOf (earlyRowsIn item profile)) (as-setup (kindOf (i .body) Analysing)) refl
+  opened-own kept = go (firstOf (earlyRowsIn item profile)) (as-setup (kindOf (i .body))) refl
     where
       absent : none ≡ some kept → {A : Type 0} → A
       absent e = absurd (let z : _≡_ {A = ℕ} 0 1 = cc in omega arith)
 
-      go : (c : Check) {k : Kind} → AsSetup k → kindOf (i .body) Analysing ≡ k
+      go : (c : Check) {k : Kind} → AsSetup k → kindOf (i .body) ≡ k
           → unlessRefused c none (cond (isSetup i) (setupAlone none i rest profile) (otherAlone none i rest)) .1 ≡ some kept
           → isOwn (setOf (kept .bcsm)) (unlessRefused c none (cond (isSetup i) (setupAlone none i rest profile) (otherAlone none i rest)) .0) ≡ true
       go (Fail n) x e = λ f. absent f

@@ -293,6 +293,13 @@ module _ (dp : PointSet) (fit : isPointSet dp ≡ true) where
   pub busy-leg : leaves dp role.Busy Two ≡ true
   busy-leg = legs role.Busy
 
+  -- Disconnect of leg 2 is a point of the call, and of leg 2; it takes that leg and no other
+  pub disconnect-point : (isIn dp role.Disconnect2 ≡ true) × (pointIn dp role.Disconnect2 .leg ≡ Two)
+  disconnect-point = let on = legs role.Disconnect2 in (and-left (isIn dp role.Disconnect2) _ on, same-leg (pointIn dp role.Disconnect2 .leg) Two (and-right (isIn dp role.Disconnect2) _ on))
+
+  pub disconnect-leg : (l : Leg) → leaves dp role.Disconnect2 l ≡ isLeg Two l
+  disconnect-leg l = rw (disconnect-point .0, disconnect-point .1)
+
   -- every role but Route failure is a point of the call
   pub all-but-failure : (p : Role) → isRole p role.RouteFailure ≡ false → isIn dp p ≡ true
   all-but-failure p e = by p e (legs p)

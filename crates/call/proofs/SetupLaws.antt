@@ -9,7 +9,6 @@ use Rattle.forms.specs.Item.{itemInRange}
 use Rattle.forms.specs.Profile.{profileOf, isProfile}
 use Rattle.forms.specs.Units.{isClockReading}
 use Rattle.call.specs.Types.{Bcsm, Item, Handling, Seconds, Tenths, Number, Stepped, Kind, Opening, Early}
-use Rattle.call.specs.declared.stages.Stage.the-variants.{Analysing}
 use Rattle.call.specs.declared.refusals.Check.the-variants.{Pass, Fail}
 use Rattle.call.specs.declared.kind.Kind.the-variants as kind
 use Rattle.call.specs.declared.setup.Early.the-variants as early
@@ -17,7 +16,7 @@ use Rattle.call.specs.Kind.{kindOf, ifSetup, isSetup}
 use Rattle.call.specs.Record.{blank, numberOf}
 use Rattle.call.specs.Answers.{isAccepted, firstOf, refused}
 use Rattle.call.specs.Refusals.{row1Time}
-use Rattle.call.specs.Setup.{begun, openingOf, unlessEarly, earlyOf, setUpOf, openedBy, openOf}
+use Rattle.call.specs.Setup.{begun, openingOf, unlessEarly, earlyOf, notOpen, setUpOf, openedBy, openOf}
 use Rattle.call.proofs.Laws.{on-guard, time-fits}
 use Rattle.call.proofs.CallTheorems.{isOver}
 use Rattle.call.proofs.kind.Kind.{the-type}
@@ -31,7 +30,7 @@ pub data AsSetup : Kind → Type 1 where
 
 pub as-setup : (k : Kind) → AsSetup k
 as-setup (kind.Setup b nature service forwarded count) = setup b nature service forwarded count
-as-setup (kind.Event p) = other (λ A f x. refl)
+as-setup (kind.Event e) = other (λ A f x. refl)
 as-setup (kind.PeriodOver l) = other (λ A f x. refl)
 as-setup (kind.RequestReport n) = other (λ A f x. refl)
 as-setup kind.Continue = other (λ A f x. refl)
@@ -64,7 +63,7 @@ begun-opens b false timer handling number t = (refl, refl)
 -- ---- what comes early of an item that is not malformed
 
 module _ (i : Item) (rest s : List ℕ) where
-  pub early-setup : (b : Bcsm) (n v : ℕ) (w : Bool) (c : ℕ) → kindOf (i .body) Analysing ≡ kind.Setup b n v w c
+  pub early-setup : (b : Bcsm) (n v : ℕ) (w : Bool) (c : ℕ) → kindOf (i .body) ≡ kind.Setup b n v w c
       → cond (isProfile (profileOf s) s) (early.Setup (openingOf (profileOf s) b n v w c rest)) (early.Refused 2) ≡ earlyOf false i rest s
   unfolding earlyOf
   early-setup b n v w c e = rw e (go (isProfile (profileOf s) s))
@@ -73,7 +72,7 @@ module _ (i : Item) (rest s : List ℕ) where
       go true = refl
       go false = refl
 
-  pub early-other : ((A : Type 0) (f : Bcsm → ℕ → ℕ → Bool → ℕ → A) (x : A) → ifSetup (kindOf (i .body) Analysing) f x ≡ x) → early.Other ≡ earlyOf false i rest s
+  pub early-other : ((A : Type 0) (f : Bcsm → ℕ → ℕ → Bool → ℕ → A) (x : A) → ifSetup (kindOf (i .body)) f x ≡ x) → early.Other ≡ earlyOf false i rest s
   unfolding earlyOf
   early-other e = rw (e Bool (λ b n v w c. true) false, e Early (λ b n v w c. early.Setup (openingOf (profileOf s) b n v w c rest)) early.Other)
 
@@ -85,9 +84,9 @@ module _ (i : Item) (rest s : List ℕ) where
 
   pub comes : Comes (earlyOf false i rest s)
   unfolding setUpOf
-  comes = go (as-setup (kindOf (i .body) Analysing)) refl
+  comes = go (as-setup (kindOf (i .body))) refl
     where
-      go : {k : Kind} → AsSetup k → kindOf (i .body) Analysing ≡ k → Comes (earlyOf false i rest s)
+      go : {k : Kind} → AsSetup k → kindOf (i .body) ≡ k → Comes (earlyOf false i rest s)
       go (setup b n v w c) e = subst Comes (early-setup b n v w c e) (by (isProfile (profileOf s) s) refl)
         where
           by : (q : Bool) → isProfile (profileOf s) s ≡ q → Comes (cond q (early.Setup (openingOf (profileOf s) b n v w c rest)) (early.Refused 2))
@@ -113,22 +112,35 @@ module _ (i : Item) (rest s : List ℕ) where
       go (opens q m a b f) = f (time-fits i rest o)
       go (passes a) = absurd (false≢true (sym a ∙ h))
 
+-- ---- what holds of each refusal, and of the call that a Setup begins, holds of what an item opens
+
+-- the call that a Setup of the kind b begins
+abbrev Begins : (Stepped → Type 0) → Bcsm → Type 0
+Begins P b = (triggered : Bool) (timer : Seconds) (handling : Handling) (number : Number) (t : Tenths) → P (begun b triggered timer handling number t)
+
+module _ (i : Item) (rest : List ℕ) (P : Stepped → Type 0) (none : (m : ℕ) → P (refused blank m)) (begins : (b : Bcsm) (n v : ℕ) (w : Bool) (c : ℕ) → kindOf (i .body) ≡ kind.Setup b n v w c → Begins P b) where
+  pub on-set-up : (o : Opening) → P (setUpOf i rest o)
+  unfolding setUpOf
+  on-set-up o = on-guard P (firstOf (row1Time (i .time) ∷ [])) blank _ none (λ e. go (as-setup (kindOf (i .body))) refl)
+    where
+      go : {k : Kind} → AsSetup k → kindOf (i .body) ≡ k → P (ifSetup k (λ b n v w c. begun b (o .triggered) (o .timer) (o .handling) (numberOf n c rest) (i .time)) notOpen)
+      go (setup b n v w c) e = begins b n v w c e (o .triggered) (o .timer) (o .handling) (numberOf n c rest) (i .time)
+      go (other f) e = rw (f Stepped (λ b n v w c. begun b (o .triggered) (o .timer) (o .handling) (numberOf n c rest) (i .time)) notOpen) (none 4)
+
+  pub on-open : (s : List ℕ) → P (openOf i rest s)
+  on-open s = open-comes i rest s P (none 1) (λ h e. go)
+    where
+      go : {e : Early} → Comes i rest s e → P (openedBy i rest e)
+      go (refuses a f) = none 2
+      go (opens o m a p f) = on-set-up o
+      go (passes a) = none 4
+
 -- ---- a Setup of the kind b
 
-module _ (i : Item) (rest : List ℕ) (b : Bcsm) (n v : ℕ) (w : Bool) (c : ℕ) (is-setup : kindOf (i .body) Analysing ≡ kind.Setup b n v w c) where
-  -- what holds of each refusal, and of a call that begins, holds of what it opens
-  module _ (P : Stepped → Type 0) (none : (m : ℕ) → P (refused blank m)) (begins : (triggered : Bool) (timer : Seconds) (handling : Handling) (number : Number) (t : Tenths) → P (begun b triggered timer handling number t)) where
-    pub on-set-up : (o : Opening) → P (setUpOf i rest o)
-    unfolding setUpOf
-    on-set-up o = on-guard P (firstOf (row1Time (i .time) ∷ [])) blank _ none (λ e. rw is-setup (begins (o .triggered) (o .timer) (o .handling) (numberOf n c rest) (i .time)))
-
-    pub on-open : (s : List ℕ) → P (openOf i rest s)
-    on-open s = open-comes i rest s P (none 1) (λ h e. go)
-      where
-        go : {e : Early} → Comes i rest s e → P (openedBy i rest e)
-        go (refuses a f) = none 2
-        go (opens o m a p f) = on-set-up o
-        go (passes a) = none 4
+module _ (i : Item) (rest : List ℕ) (b : Bcsm) (n v : ℕ) (w : Bool) (c : ℕ) (is-setup : kindOf (i .body) ≡ kind.Setup b n v w c) where
+  -- is of no other kind
+  pub of-kind : (P : Stepped → Type 0) → Begins P b → (a : Bcsm) (m u : ℕ) (x : Bool) (d : ℕ) → kindOf (i .body) ≡ kind.Setup a m u x d → Begins P a
+  of-kind P f a m u x d e = let same : b ≡ a = cc in subst (Begins P) same f
 
   -- the call that is opened is of that kind (T-04)
   abbrev IsKind : Stepped → Type 0
@@ -139,7 +151,7 @@ module _ (i : Item) (rest : List ℕ) (b : Bcsm) (n v : ℕ) (w : Bool) (c : ℕ
   begun-kind false timer handling number t h = refl
 
   pub set-up-kind : (o : Opening) → IsKind (setUpOf i rest o)
-  set-up-kind = on-set-up IsKind (λ m h. absurd (false≢true h)) begun-kind
+  set-up-kind = on-set-up i rest IsKind (λ m h. absurd (false≢true h)) (of-kind IsKind begun-kind)
 
   pub open-kind : (s : List ℕ) → IsKind (openOf i rest s)
-  open-kind = on-open IsKind (λ m h. absurd (false≢true h)) begun-kind
+  open-kind = on-open i rest IsKind (λ m h. absurd (false≢true h)) (of-kind IsKind begun-kind)

@@ -15,7 +15,7 @@ use Rattle.forms.specs.declared.item.Bcsm.the-variants.{Originating, Terminatin
 use Rattle.forms.specs.declared.item.Leg.the-variants.{One, Two}
 use Rattle.forms.specs.declared.item.Body.the-variants as B
 use Rattle.forms.specs.declared.profile.Handling.the-variants as D
-use Rattle.call.specs.Types.{Bcsm, Body, Criterion, Item, Handling, Leg, Role, Point, PointSet, Named, Stage, Presence, Mode, Arming, Hold, Clock, Charge, LegState, Number, Record, Report, ChargeReport, Deadline, Answer, Stepped}
+use Rattle.call.specs.Types.{Bcsm, Body, Criterion, Handling, Leg, Role, Point, PointSet, Named, Stage, Presence, Mode, Arming, Hold, Clock, Charge, LegState, Number, Record, Report, ChargeReport, Deadline, Answer, Stepped}
 use Rattle.call.specs.declared.roles.Role.the-variants as P
 use Rattle.call.specs.declared.points.Named.the-variants.{Unknown, Known}
 use Rattle.call.specs.declared.stages.Stage.the-variants.{Analysing, Alerting, Active}
@@ -279,42 +279,61 @@ leftIn r = record { armed = armedIn (r .bcsm) (r .armings) roles; legs = legIn 1
 abbrev leaves : List (ℕ × ℕ) → List ℕ → Stage → List (ℕ × ℕ) → Left
 leaves armed legs stage held = record { armed = armed; legs = legs; stage = stage; held = held }
 
-abbrev leg1 : List (ℕ × ℕ)
-leg1 = 8 ╱ 1 ∷ 9 ╱ 1 ∷ 10 ╱ 1 ∷ 50 ╱ 1 ∷ []
+-- the points of leg 1, and of leg 2
+abbrev ofLeg1 : Bcsm → List (ℕ × ℕ)
+ofLeg1 Originating = 8 ╱ 1 ∷ 9 ╱ 1 ∷ 10 ╱ 1 ∷ 50 ╱ 1 ∷ []
+ofLeg1 Terminating = 17 ╱ 1 ∷ 18 ╱ 1 ∷ []
 
-abbrev leg2 : List (ℕ × ℕ)
-leg2 = 4 ╱ 2 ∷ 5 ╱ 2 ∷ 6 ╱ 2 ∷ 7 ╱ 2 ∷ 9 ╱ 2 ∷ 19 ╱ 2 ∷ []
+abbrev ofLeg2 : Bcsm → List (ℕ × ℕ)
+ofLeg2 Originating = 4 ╱ 2 ∷ 5 ╱ 2 ∷ 6 ╱ 2 ∷ 7 ╱ 2 ∷ 9 ╱ 2 ∷ 19 ╱ 2 ∷ []
+ofLeg2 Terminating = 16 ╱ 2 ∷ 51 ╱ 2 ∷ 13 ╱ 2 ∷ 14 ╱ 2 ∷ 15 ╱ 2 ∷ 17 ╱ 2 ∷ 27 ╱ 2 ∷ []
 
 -- the table 'met, disarms' (its row of 7 is T-01's); "The first and last rows also make that leg absent. Seized makes the stage alerting, Answer active. The call is held exactly if the mode was 0"
 -- T-04: "Answer disarms 13, 14, 15, 18 and 27; the other rows are the same in kind, 16, 27 and 51 each disarming only itself"; Route failure is refused and leaves all
 -- The last one is a caller who hangs up before the answer
 pub met-leaves :
     map (λ (b : Bcsm). zipped (λ (s : Stage) (e : Body). leftIn (item (at b s H.None (interrupting b)) e .next)) (stages ++ (Alerting ∷ [])) (events ++ (B.Clear One 16 ∷ []))) kinds
-    ≡ (leaves leg1 (1 ∷ []) Analysing (4 ╱ 2 ∷ [])
-    ∷ leaves leg1 (1 ∷ []) Analysing (5 ╱ 2 ∷ [])
-    ∷ leaves leg1 (1 ∷ []) Analysing (6 ╱ 2 ∷ [])
-    ∷ leaves (leg1 ++ (4 ╱ 2 ∷ 5 ╱ 2 ∷ 6 ╱ 2 ∷ 7 ╱ 2 ∷ 9 ╱ 2 ∷ [])) (1 ∷ 2 ∷ []) Alerting (19 ╱ 2 ∷ [])
+    ≡ (leaves (ofLeg1 Originating) (1 ∷ []) Analysing (4 ╱ 2 ∷ [])
+    ∷ leaves (ofLeg1 Originating) (1 ∷ []) Analysing (5 ╱ 2 ∷ [])
+    ∷ leaves (ofLeg1 Originating) (1 ∷ []) Analysing (6 ╱ 2 ∷ [])
+    ∷ leaves (ofLeg1 Originating ++ (4 ╱ 2 ∷ 5 ╱ 2 ∷ 6 ╱ 2 ∷ 7 ╱ 2 ∷ 9 ╱ 2 ∷ [])) (1 ∷ 2 ∷ []) Alerting (19 ╱ 2 ∷ [])
     ∷ leaves (8 ╱ 1 ∷ 9 ╱ 1 ∷ 50 ╱ 1 ∷ 9 ╱ 2 ∷ []) (1 ∷ 2 ∷ []) Active (7 ╱ 2 ∷ [])
-    ∷ leaves (9 ╱ 1 ∷ 10 ╱ 1 ∷ 50 ╱ 1 ∷ leg2) (1 ∷ 2 ∷ []) Active (8 ╱ 1 ∷ [])
-    ∷ leaves (8 ╱ 1 ∷ 9 ╱ 1 ∷ 10 ╱ 1 ∷ leg2) (1 ∷ 2 ∷ []) Active []
-    ∷ leaves leg2 (2 ∷ []) Active (9 ╱ 1 ∷ [])
-    ∷ leaves leg1 (1 ∷ []) Active (9 ╱ 2 ∷ [])
-    ∷ leaves leg2 (2 ∷ []) Alerting (10 ╱ 1 ∷ [])
+    ∷ leaves (9 ╱ 1 ∷ 10 ╱ 1 ∷ 50 ╱ 1 ∷ ofLeg2 Originating) (1 ∷ 2 ∷ []) Active (8 ╱ 1 ∷ [])
+    ∷ leaves (8 ╱ 1 ∷ 9 ╱ 1 ∷ 10 ╱ 1 ∷ ofLeg2 Originating) (1 ∷ 2 ∷ []) Active []
+    ∷ leaves (ofLeg2 Originating) (2 ∷ []) Active (9 ╱ 1 ∷ [])
+    ∷ leaves (ofLeg1 Originating) (1 ∷ []) Active (9 ╱ 2 ∷ [])
+    ∷ leaves (ofLeg2 Originating) (2 ∷ []) Alerting (10 ╱ 1 ∷ [])
     ∷ [])
     ∷ (leaves (pairs Terminating) (1 ∷ 2 ∷ []) Analysing []
-    ∷ leaves (17 ╱ 1 ∷ 18 ╱ 1 ∷ []) (1 ∷ []) Analysing (13 ╱ 2 ∷ [])
-    ∷ leaves (17 ╱ 1 ∷ 18 ╱ 1 ∷ []) (1 ∷ []) Analysing (14 ╱ 2 ∷ [])
+    ∷ leaves (ofLeg1 Terminating) (1 ∷ []) Analysing (13 ╱ 2 ∷ [])
+    ∷ leaves (ofLeg1 Terminating) (1 ∷ []) Analysing (14 ╱ 2 ∷ [])
     ∷ leaves (16 ╱ 2 ∷ 17 ╱ 1 ∷ 18 ╱ 1 ∷ 51 ╱ 2 ∷ 13 ╱ 2 ∷ 14 ╱ 2 ∷ 15 ╱ 2 ∷ 17 ╱ 2 ∷ []) (1 ∷ 2 ∷ []) Alerting (27 ╱ 2 ∷ [])
     ∷ leaves (16 ╱ 2 ∷ 17 ╱ 1 ∷ 51 ╱ 2 ∷ 17 ╱ 2 ∷ []) (1 ∷ 2 ∷ []) Active (15 ╱ 2 ∷ [])
     ∷ leaves (17 ╱ 1 ∷ 18 ╱ 1 ∷ 51 ╱ 2 ∷ 13 ╱ 2 ∷ 14 ╱ 2 ∷ 15 ╱ 2 ∷ 17 ╱ 2 ∷ 27 ╱ 2 ∷ []) (1 ∷ 2 ∷ []) Active (16 ╱ 2 ∷ [])
     ∷ leaves (16 ╱ 2 ∷ 17 ╱ 1 ∷ 18 ╱ 1 ∷ 13 ╱ 2 ∷ 14 ╱ 2 ∷ 15 ╱ 2 ∷ 17 ╱ 2 ∷ 27 ╱ 2 ∷ []) (1 ∷ 2 ∷ []) Active []
-    ∷ leaves (16 ╱ 2 ∷ 51 ╱ 2 ∷ 13 ╱ 2 ∷ 14 ╱ 2 ∷ 15 ╱ 2 ∷ 17 ╱ 2 ∷ 27 ╱ 2 ∷ []) (2 ∷ []) Active (17 ╱ 1 ∷ [])
-    ∷ leaves (17 ╱ 1 ∷ 18 ╱ 1 ∷ []) (1 ∷ []) Active (17 ╱ 2 ∷ [])
-    ∷ leaves (16 ╱ 2 ∷ 51 ╱ 2 ∷ 13 ╱ 2 ∷ 14 ╱ 2 ∷ 15 ╱ 2 ∷ 17 ╱ 2 ∷ 27 ╱ 2 ∷ []) (2 ∷ []) Alerting (18 ╱ 1 ∷ [])
+    ∷ leaves (ofLeg2 Terminating) (2 ∷ []) Active (17 ╱ 1 ∷ [])
+    ∷ leaves (ofLeg1 Terminating) (1 ∷ []) Active (17 ╱ 2 ∷ [])
+    ∷ leaves (ofLeg2 Terminating) (2 ∷ []) Alerting (18 ╱ 1 ∷ [])
     ∷ [])
     ∷ []
 unfolding someArmed met respondIn
 met-leaves = refl
+
+-- beside these the last time becomes the item's, 1010 (a terminating call refuses Route failure, which leaves 1000); the kept timer, the profile's defaults and the number stay. Each event, then a Clear of leg 1 and of leg 2 while held
+abbrev keeping : Bcsm → Stage → Hold → Record
+keeping b s h = by b 30 D.Release s (present uncharged) (present uncharged) h 1000 (interrupting b) 40 (to (4 ∷ 9 ∷ []))
+
+abbrev keptIn : Record → ℕ × ℕ × ℕ × Handling × Number
+keptIn r = (r .last .0, r .kept .0, r .timer .0, r .handling, r .number)
+
+pub met-keeps :
+    map
+    (λ (b : Bcsm). zipped (λ (s : Stage) (e : Body). keptIn (asked 1010 (keeping b s H.None) e [] .next)) stages events
+    ++ map (λ (l : Leg). keptIn (asked 1010 (keeping b Active (H.At P.Answer)) (B.Clear l 16) [] .next)) (One ∷ Two ∷ []))
+    kinds
+    ≡ map (λ (failure : ℕ). map (λ (t : ℕ). (t, 40, 30, D.Release, to (4 ∷ 9 ∷ []))) (failure ∷ replicate 10 1010)) (1010 ∷ 1000 ∷ [])
+unfolding someArmed met respondIn
+met-keeps = refl
 
 -- "report by its mode if armed …; none if unarmed"; "If a leg became absent and the mode was not 0, the call is over": each event unarmed and armed for notification, and whether it ends the call
 abbrev isOver : Answer → Bool
@@ -387,6 +406,51 @@ pub charges-over :
     ≡ replicate 2 (replicate 2 (bills (some 100) (some 0) uncharged uncharged))
 unfolding someArmed met respondIn
 charges-over = refl
+
+-- ---- a Clear while held: the report, whether the call is over, what is left of it and of its charges
+-- The role met, by its place, is in mode 0, in mode 1 and unarmed, every other point armed; leg 1's charge runs since 900, leg 2's since 950
+
+abbrev caller : LegState
+caller = present (runs 600 900)
+
+abbrev cleared : Bcsm → Leg → Stage → ℕ → LegState → Role → List (Said × Bool × Left × Billed)
+cleared b l stage place one h =
+    map (λ (m : Mode). seen (item (with b stage one (present (runs 600 950)) (H.At h) 1000 (set (interrupting b) place (record { mode = m })) 0 (to (4 ∷ 9 ∷ []))) (B.Clear l 16))) (M.Interrupted ∷ M.Notify ∷ M.None ∷ [])
+  where
+    seen : Stepped → Said × Bool × Left × Billed
+    seen s = (said (s .answer), isOver (s .answer), leftIn (s .next), billedIn s)
+
+-- T-05: "Armed for interruption: reported, the hold moves to Disconnect leg 2. For notification: reported, the hold stays. Unarmed: it stays. In all three leg 2 becomes absent, its points are disarmed, its charge is reported"
+abbrev holds : Bcsm → ℕ × ℕ → LegState → ℕ × ℕ → List (Said × Bool × Left × Billed)
+holds b met one h =
+    let left = leaves (ofLeg1 b) (legIn 1 (one .presence)) Active in
+    let bill = bills none (some 50) (one .charge) uncharged in
+    (interrupts met, false, left (met ∷ []), bill) ∷ (notifies met, false, left (h ∷ []), bill) ∷ (silent, false, left (h ∷ []), bill) ∷ []
+
+-- held at Answer and at Mid-call; held at Disconnect of leg 1, which is gone
+pub held-clear-of-2 :
+    map (λ (b : Bcsm). let clear = cleared b Two Active 8 in clear caller P.Answer ∷ clear caller P.MidCall ∷ clear gone P.Disconnect1 ∷ []) kinds
+    ≡ (let clear = holds Originating (9 ╱ 2) in clear caller (7 ╱ 2) ∷ clear caller (8 ╱ 1) ∷ clear gone (9 ╱ 1) ∷ [])
+    ∷ (let clear = holds Terminating (17 ╱ 2) in clear caller (15 ╱ 2) ∷ clear caller (16 ╱ 2) ∷ clear gone (17 ╱ 1) ∷ [])
+    ∷ []
+unfolding someArmed met respondIn
+held-clear-of-2 = refl
+
+-- "The call is held exactly if the mode was 0 (moving any earlier hold). If a leg became absent and the mode was not 0, the call is over"
+abbrev movesOrEnds : Bcsm → Stage → ℕ × ℕ → List (Said × Bool × Left × Billed)
+movesOrEnds b s met =
+    let left = leaves [] [] Analysing [] in
+    let bill = bills (some 100) (some 50) uncharged uncharged in
+    (interrupts met, false, leaves (ofLeg2 b) (2 ∷ []) s (met ∷ []), bills (some 100) none uncharged (runs 600 950)) ∷ (notifies met, true, left, bill) ∷ (silent, true, left, bill) ∷ []
+
+-- held at Seized, alerting; held at Answer, active
+pub held-clear-of-1 :
+    map (λ (b : Bcsm). cleared b One Alerting 2 caller P.Seized ∷ cleared b One Active 1 caller P.Answer ∷ []) kinds
+    ≡ (movesOrEnds Originating Alerting (10 ╱ 1) ∷ movesOrEnds Originating Active (9 ╱ 1) ∷ [])
+    ∷ (movesOrEnds Terminating Alerting (18 ╱ 1) ∷ movesOrEnds Terminating Active (17 ╱ 1) ∷ [])
+    ∷ []
+unfolding someArmed met respondIn
+held-clear-of-1 = refl
 
 -- ---- "Elapsed = smaller of (time − start) and period": leg 1's charge at 900 (its start), 1499, 1500 and 1501, as a Clear of leg 1 reports it; period 600
 
@@ -484,7 +548,7 @@ pub named-twice : twice Originating 9 (8 ╱ 1) (5 ╱ 2) ∷ twice Terminating 
 unfolding flatten entryOf entriesOf areGood arePossible armedWith someArmed respondIn
 named-twice = refl
 
--- ---- Numbered refusals: every item in eleven calls of each kind
+-- ---- Numbered refusals: every item in fourteen calls of each kind
 
 -- Setup of both kinds; the nine events; Period over of leg 1 and leg 2; Request report, for Disconnect of leg 2; Continue, Connect, Release; Apply charging for leg 1 and leg 2; Activity test, Abort
 abbrev asks : ℕ → ℕ → Record → List ℕ
@@ -517,17 +581,22 @@ refusalsIn b disconnect failure =
     -- control, by Answer in mode 0, not held; alerting; a charge of leg 1 whose period is not over yet, one of leg 2 that waits
     ∷ (ask 1000 (with b Alerting (present (runs 100 901)) (present (waits 100)) H.None 1000 (only 7 M.Interrupted) 0 number)
     ▸ 5 ∷ 5 ∷ 12 ∷ 0 ∷ 0 ∷ 12 ∷ 0 ∷ 12 ∷ 0 ∷ 0 ∷ 12 ∷ 14 ∷ 12 ∷ 0 ∷ 10 ∷ 10 ∷ 0 ∷ 13 ∷ 13 ∷ 0 ∷ 0 ∷ [])
-    -- held at the trigger; held at Answer, active
-    ∷ (ask 1000 (at b Analysing H.Trigger nothing) ▸ 5 ∷ 5 ∷ 9 ∷ 9 ∷ 9 ∷ 9 ∷ 9 ∷ 9 ∷ 9 ∷ 0 ∷ 9 ∷ 12 ∷ 12 ∷ replicate 8 0)
-    ∷ (ask 1000 (at b Active (H.At P.Answer) nothing) ▸ 5 ∷ 5 ∷ 9 ∷ 9 ∷ 9 ∷ 9 ∷ 9 ∷ 9 ∷ 9 ∷ 0 ∷ 9 ∷ 12 ∷ 12 ∷ 0 ∷ 0 ∷ 12 ∷ replicate 5 0)
+    -- held at the trigger; held at Seized, alerting; held at Answer, active. T-05: "9 excepts Clear of either leg"; a Clear of leg 2 "is accepted while held, if active and leg 2 is present"
+    ∷ (ask 1000 (at b Analysing H.Trigger nothing) ▸ 5 ∷ 5 ∷ 9 ∷ 9 ∷ 9 ∷ 9 ∷ 9 ∷ 9 ∷ 9 ∷ 0 ∷ 12 ∷ 12 ∷ 12 ∷ replicate 8 0)
+    ∷ (ask 1000 (at b Alerting (H.At P.Seized) nothing) ▸ 5 ∷ 5 ∷ 9 ∷ 9 ∷ 9 ∷ 9 ∷ 9 ∷ 9 ∷ 9 ∷ 0 ∷ 12 ∷ 12 ∷ 12 ∷ 0 ∷ 0 ∷ 12 ∷ replicate 5 0)
+    ∷ (ask 1000 (at b Active (H.At P.Answer) nothing) ▸ 5 ∷ 5 ∷ 9 ∷ 9 ∷ 9 ∷ 9 ∷ 9 ∷ 9 ∷ 9 ∷ 0 ∷ 0 ∷ 12 ∷ 12 ∷ 0 ∷ 0 ∷ 12 ∷ replicate 5 0)
     -- held at Busy, leg 2 absent; held at Abandon, leg 1 absent
     ∷ (ask 1000 (with b Analysing (present uncharged) gone (H.At P.Busy) 1000 nothing 0 number)
-    ▸ 5 ∷ 5 ∷ 9 ∷ 9 ∷ 9 ∷ 9 ∷ 9 ∷ 9 ∷ 9 ∷ 0 ∷ 9 ∷ 12 ∷ 12 ∷ 0 ∷ 0 ∷ 0 ∷ 0 ∷ 0 ∷ 12 ∷ 0 ∷ 0 ∷ [])
+    ▸ 5 ∷ 5 ∷ 9 ∷ 9 ∷ 9 ∷ 9 ∷ 9 ∷ 9 ∷ 9 ∷ 0 ∷ 12 ∷ 12 ∷ 12 ∷ 0 ∷ 0 ∷ 0 ∷ 0 ∷ 0 ∷ 12 ∷ 0 ∷ 0 ∷ [])
     ∷ (ask 1000 (with b Analysing gone (present uncharged) (H.At P.Abandon) 1000 nothing 0 number)
-    ▸ 5 ∷ 5 ∷ 9 ∷ 9 ∷ 9 ∷ 9 ∷ 9 ∷ 9 ∷ 9 ∷ 12 ∷ 9 ∷ 12 ∷ 12 ∷ 12 ∷ 0 ∷ 12 ∷ 0 ∷ 12 ∷ 12 ∷ 0 ∷ 0 ∷ [])
-    -- held at Disconnect of leg 1, both legs absent
+    ▸ 5 ∷ 5 ∷ 9 ∷ 9 ∷ 9 ∷ 9 ∷ 9 ∷ 9 ∷ 9 ∷ 12 ∷ 12 ∷ 12 ∷ 12 ∷ 12 ∷ 0 ∷ 12 ∷ 0 ∷ 12 ∷ 12 ∷ 0 ∷ 0 ∷ [])
+    -- active: held at Answer, leg 2 absent; held at Disconnect of leg 1, leg 1 absent, and both legs
+    ∷ (ask 1000 (with b Active (present uncharged) gone (H.At P.Answer) 1000 nothing 0 number)
+    ▸ 5 ∷ 5 ∷ 9 ∷ 9 ∷ 9 ∷ 9 ∷ 9 ∷ 9 ∷ 9 ∷ 0 ∷ 12 ∷ 12 ∷ 12 ∷ 0 ∷ 0 ∷ 0 ∷ 0 ∷ 0 ∷ 12 ∷ 0 ∷ 0 ∷ [])
+    ∷ (ask 1000 (with b Active gone (present uncharged) (H.At P.Disconnect1) 1000 nothing 0 number)
+    ▸ 5 ∷ 5 ∷ 9 ∷ 9 ∷ 9 ∷ 9 ∷ 9 ∷ 9 ∷ 9 ∷ 12 ∷ 0 ∷ 12 ∷ 12 ∷ 12 ∷ 0 ∷ 12 ∷ 0 ∷ 12 ∷ 12 ∷ 0 ∷ 0 ∷ [])
     ∷ (ask 1000 (with b Active gone gone (H.At P.Disconnect1) 1000 nothing 0 number)
-    ▸ 5 ∷ 5 ∷ 9 ∷ 9 ∷ 9 ∷ 9 ∷ 9 ∷ 9 ∷ 9 ∷ 12 ∷ 9 ∷ 12 ∷ 12 ∷ 12 ∷ 0 ∷ 12 ∷ 0 ∷ 12 ∷ 12 ∷ 0 ∷ 0 ∷ [])
+    ▸ 5 ∷ 5 ∷ 9 ∷ 9 ∷ 9 ∷ 9 ∷ 9 ∷ 9 ∷ 9 ∷ 12 ∷ 12 ∷ 12 ∷ 12 ∷ 12 ∷ 0 ∷ 12 ∷ 0 ∷ 12 ∷ 12 ∷ 0 ∷ 0 ∷ [])
     ∷ []
 
 -- "Route failure is out of place (12)" in a terminating call; held it is 9 all the same

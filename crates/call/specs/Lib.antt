@@ -17,3 +17,4 @@ pub mod Step
 pub mod Setup
 pub mod Alone
 pub mod Order
+pub mod Orphan

@@ -2,7 +2,7 @@
 -- The rules take any point set; `isPointSet` says what makes a description a good one, and the laws hold of each that passes (proofs/PointLaws.antt). `setOf` has the two: document 01's, and T-04's.
 use Prim.Native.Nat.{ℕ}
 use mathlib.Core.List.{List, [], _∷_, map}
-use mathlib.Core.Bool.{Bool, true, false, not, cond, _&&_, _||_}
+use mathlib.Core.Bool.{Bool, not, cond, _&&_, _||_}
 use lib.Dec.{eqb, ltb}
 use lib.ListN.{getD}
 use Rattle.forms.specs.Fields.{legNumber}

@@ -6,7 +6,7 @@ use lib.Dec.{ltb}
 use Rattle.forms.specs.Item.{itemInRange, itemOf, isItem}
 use Rattle.forms.specs.Profile.{profileOf, isProfile}
 use Rattle.forms.specs.Units.{isClockReading}
-use Rattle.call.specs.Types.{Leg, Item, Entry, Tenths, Role, PointSet, Record, Kind}
+use Rattle.call.specs.Types.{Leg, Item, Entry, Tenths, PointSet, Record, Event, Kind}
 use Rattle.call.specs.declared.kind.Kind.the-variants as kind
 use Rattle.call.specs.Charging.{isBeforeEnd}
 use Rattle.call.specs.Relationship.{relationshipOf, isControl, isRelated}
@@ -14,7 +14,7 @@ use Rattle.call.specs.Record.{isPresent, isPending, isStarted, isHeld, l
 use Rattle.call.specs.Answers.{Row, row}
 use Rattle.call.specs.Kind.{isSetup}
 use Rattle.call.specs.Request.{entriesOf, areGood, noneSeen, arePossible}
-use Rattle.call.specs.Events.{isClearOf1, canMeet}
+use Rattle.call.specs.Events.{isClear, roleOf, canMeet}
 use Rattle.call.specs.Operations.{canConnect}
 use Rattle.call.specs.Range.{recordInRange}
 
@@ -57,9 +57,9 @@ row8 r = row 8 (not (isControl (relationshipOf r)))
 abbrev pub row8Any : Record → Row
 row8Any r = row 8 (not (isRelated (relationshipOf r)))
 
--- "event while held, but for Clear of leg 1"
-abbrev pub row9 : Record → Role → Row
-row9 r p = row 9 (isHeld (r .hold) && not (isClearOf1 p))
+-- "event while held, but for Clear of leg 1"; T-05: "9 excepts Clear of either leg"
+abbrev pub row9 : Record → Event → Row
+row9 r e = row 9 (isHeld (r .hold) && not (isClear e))
 
 -- "Continue or Connect, not held"
 abbrev pub row10 : Record → Row
@@ -84,7 +84,7 @@ row14 r l t = row 14 (isBeforeEnd (legAt l r .charge) t)
 -- the rows that an item meets which asks k of an open call at t; its entries stand in `rest`
 abbrev pub rowsOf : PointSet → Record → Kind → Tenths → List ℕ → List Row
 rowsOf dp r (kind.Setup b nature service forwarded count) t rest = row5 ∷ []
-rowsOf dp r (kind.Event p) t rest = row7 r t ∷ row9 r p ∷ row12 (canMeet dp r p) ∷ []
+rowsOf dp r (kind.Event e) t rest = row7 r t ∷ row9 r e ∷ row12 (canMeet dp r (roleOf e (r .stage))) ∷ []
 rowsOf dp r (kind.PeriodOver l) t rest = row7 r t ∷ row12 (isStarted (legAt l r .charge .clock)) ∷ row14 r l t ∷ []
 rowsOf dp r (kind.RequestReport n) t rest = row7 r t ∷ row8 r ∷ row11 dp (entriesOf n rest) ∷ row12 (arePossible dp r (entriesOf n rest)) ∷ []
 rowsOf dp r kind.Continue t rest = row7 r t ∷ row8 r ∷ row10 r ∷ []

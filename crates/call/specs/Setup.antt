@@ -66,7 +66,7 @@ unlessEarly Pass e = e
 unfoldable pub earlyOf : Bool → Item → List ℕ → List ℕ → Early
 earlyOf malformed i rest s =
     unlessEarly (firstOf (earlyRows malformed i s))
-    (ifSetup (kindOf (i .body) Analysing) (λ b nature service forwarded count. early.Setup (openingOf (profileOf s) b nature service forwarded count rest)) early.Other)
+    (ifSetup (kindOf (i .body)) (λ b nature service forwarded count. early.Setup (openingOf (profileOf s) b nature service forwarded count rest)) early.Other)
 
 -- "call not open (all but Setup)"
 abbrev pub notOpen : Stepped
@@ -76,7 +76,7 @@ notOpen = refused blank 4
 unfoldable pub setUpOf : Item → List ℕ → Opening → Stepped
 setUpOf i rest o =
     guarded (firstOf (row1Time (i .time) ∷ [])) blank
-    (ifSetup (kindOf (i .body) Analysing) (λ b nature service forwarded count. begun b (o .triggered) (o .timer) (o .handling) (numberOf nature count rest) (i .time)) notOpen)
+    (ifSetup (kindOf (i .body)) (λ b nature service forwarded count. begun b (o .triggered) (o .timer) (o .handling) (numberOf nature count rest) (i .time)) notOpen)
 
 -- any item where no call is open: a Setup opens one
 abbrev pub openedBy : Item → List ℕ → Early → Stepped

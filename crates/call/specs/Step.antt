@@ -8,7 +8,7 @@ use Rattle.call.specs.Points.{setOf}
 use Rattle.call.specs.Record.{numberOf, timed}
 use Rattle.call.specs.Answers.{firstOf, quietly, ended, refused, guarded}
 use Rattle.call.specs.Request.{requestReport}
-use Rattle.call.specs.Events.{met}
+use Rattle.call.specs.Events.{roleOf, met}
 use Rattle.call.specs.Operations.{routed, continued, connected, aborted, periodOver, chargeApplied}
 use Rattle.call.specs.Kind.{kindOf}
 use Rattle.call.specs.Refusals.{row1, row1Time, row3, rowsOf}
@@ -17,7 +17,7 @@ use Rattle.call.specs.Refusals.{row1, row1Time, row3, rowsOf}
 
 abbrev pub served : PointSet → Record → Kind → Tenths → List ℕ → Stepped
 served dp r (kind.Setup b nature service forwarded count) t rest = refused r 5
-served dp r (kind.Event p) t rest = met dp r p t
+served dp r (kind.Event e) t rest = met dp r (roleOf e (r .stage)) t
 served dp r (kind.PeriodOver l) t rest = periodOver dp r l t
 served dp r (kind.RequestReport n) t rest = requestReport dp r n rest t
 served dp r kind.Continue t rest = continued dp r t
@@ -33,7 +33,7 @@ respondAs dp r k t rest = guarded (firstOf (row1Time t ∷ rowsOf dp r k t rest)
 
 -- an item of a call whose points are dp; and of any call, by its own
 unfoldable pub respondIn : PointSet → Record → Item → List ℕ → Stepped
-respondIn dp r i rest = respondAs dp r (kindOf (i .body) (r .stage)) (i .time) rest
+respondIn dp r i rest = respondAs dp r (kindOf (i .body)) (i .time) rest
 
 abbrev pub respondOf : Record → Item → List ℕ → Stepped
 respondOf r = respondIn (setOf (r .bcsm)) r

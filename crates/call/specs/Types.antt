@@ -20,6 +20,7 @@ pub use Rattle.call.specs.declared.answers.Suspension.{Suspension}
 pub use Rattle.call.specs.declared.armings.Arming.{Arming}
 pub use Rattle.call.specs.declared.armings.Mode.{Mode}
 pub use Rattle.call.specs.declared.charging.ChargeReport.{ChargeReport}
+pub use Rattle.call.specs.declared.events.Event.{Event}
 pub use Rattle.call.specs.declared.kind.Kind.{Kind}
 pub use Rattle.call.specs.declared.points.Named.{Named}
 pub use Rattle.call.specs.declared.points.Point.{Point}

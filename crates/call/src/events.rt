@@ -1,8 +1,8 @@
-// Events: a role is met (document 01, One call).
+// Events: each meets a role (document 01, One call).
 ghost use mathlib.Core.Path.{_≡_};
 ghost use Rattle.call.specs.Points.{setOf};
 ghost use Rattle.call.specs.Record.{legAt};
-ghost use Rattle.call.specs.Events.{isClearOf1, canMeet, eventReport, holdAfter, legAfter, chargeAfter, endsCall, met};
+ghost use Rattle.call.specs.Events.{isClear, clearOf, roleOf, canMeet, eventReport, holdAfter, legAfter, chargeAfter, endsCall, met};
 use crate::answers;
 use crate::answers::*;
 use crate::armings;
@@ -16,14 +16,67 @@ use crate::record::*;
 use crate::roles;
 use crate::roles::Role;
 use crate::stages;
+use crate::stages::Stage;
 use forms::item::*;
 use forms::units::Tenths;
 
-// The role is met by a Clear of leg 1.
-pub(crate) fn is_clear_of_1(p: Role) -> bool
-    ensures { λ r. ⌜ r ≡ isClearOf1 p ⌝ }
+// The nine events: kinds 2 to 8, and Clear by its leg.
+pub(crate) enum Event {
+    RouteFailure,
+    Busy,
+    NoAnswer,
+    Seized,
+    Answer,
+    MidCall,
+    Moved,
+    Clear(Leg),
+}
+
+pub(crate) fn is_clear(e: Event) -> bool
+    ensures { λ r. ⌜ r ≡ isClear e ⌝ }
 {
-    roles::is_role(p, Role::Abandon) | roles::is_role(p, Role::Disconnect1)
+    match e {
+        Event::RouteFailure => false,
+        Event::Busy => false,
+        Event::NoAnswer => false,
+        Event::Seized => false,
+        Event::Answer => false,
+        Event::MidCall => false,
+        Event::Moved => false,
+        Event::Clear(_) => true,
+    }
+}
+
+// The role that a Clear meets.
+fn clear_of(leg: Leg, s: Stage) -> Role
+    ensures { λ r. ⌜ r ≡ clearOf leg s ⌝ }
+{
+    match leg {
+        Leg::One => {
+            if stages::is_active(s) {
+                Role::Disconnect1
+            } else {
+                Role::Abandon
+            }
+        }
+        Leg::Two => Role::Disconnect2,
+    }
+}
+
+// The role that an event meets.
+pub(crate) fn role_of(e: Event, s: Stage) -> Role
+    ensures { λ r. ⌜ r ≡ roleOf e s ⌝ }
+{
+    match e {
+        Event::RouteFailure => Role::RouteFailure,
+        Event::Busy => Role::Busy,
+        Event::NoAnswer => Role::NoAnswer,
+        Event::Seized => Role::Seized,
+        Event::Answer => Role::Answer,
+        Event::MidCall => Role::MidCall,
+        Event::Moved => Role::Moved,
+        Event::Clear(leg) => clear_of(leg, s),
+    }
 }
 
 // The stage and the legs allow the event.
@@ -79,23 +132,24 @@ fn leg_after(r: Record, p: Role, leg: Leg, t: Tenths) -> LegAfter
     }
 }
 
-// What a met role does by its mode: the report, the hold, and whether the call is over.
+// What a met role does by its mode and the earlier hold: the report, the hold, and whether the call is over.
 struct ByMode {
     event: Report,
     hold: Hold,
     over: bool,
 }
 
-fn by_mode(bcsm: Bcsm, p: Role, m: Mode) -> ByMode
-    ensures { λ r. ⌜ r ≡ record { event = eventReport (setOf bcsm) p m; hold = holdAfter p m; over = endsCall p m } ⌝ }
+fn by_mode(bcsm: Bcsm, p: Role, m: Mode, earlier: Hold) -> ByMode
+    ensures { λ r. ⌜ r ≡ record { event = eventReport (setOf bcsm) p m; hold = holdAfter p m earlier; over = endsCall p m earlier } ⌝ }
 {
     let part = roles::part_of(p);
     let q = points::point_in(bcsm, p);
+    let over = part.leaves & !(roles::is_role(p, Role::Disconnect2) & record::is_held(earlier));
     match m {
         Mode::None => ByMode {
             event: Report::None,
-            hold: Hold::None,
-            over: part.leaves,
+            hold: earlier,
+            over,
         },
         Mode::Interrupted => ByMode {
             event: Report::Interrupting(q),
@@ -104,8 +158,8 @@ fn by_mode(bcsm: Bcsm, p: Role, m: Mode) -> ByMode
         },
         Mode::Notify => ByMode {
             event: Report::Notification(q),
-            hold: Hold::None,
-            over: part.leaves,
+            hold: earlier,
+            over,
         },
     }
 }
@@ -119,8 +173,9 @@ pub(crate) fn meet(r: Record, p: Role, t: Tenths) -> Stepped
     let a = r.armings;
     let kept = r.kept;
     let number = r.number;
+    let earlier = r.hold;
     let m = armings::mode_at(p, a);
-    let by = by_mode(bcsm, p, m);
+    let by = by_mode(bcsm, p, m, earlier);
     let event = by.event;
     if by.over {
         return answers::end(r, event, t);

@@ -11,6 +11,7 @@ ghost use Rattle.call.specs.Operations.{canConnect};
 ghost use Rattle.call.specs.Refusals.{row7, row8, row8Any, row10, row11, row12, row13, row14, rowsOf};
 use crate::charging;
 use crate::events;
+use crate::events::Event;
 use crate::kind::Kind;
 use crate::operations;
 use crate::points;
@@ -18,7 +19,6 @@ use crate::record;
 use crate::record::*;
 use crate::relationship;
 use crate::request;
-use crate::roles::Role;
 use forms::item;
 use forms::item::Leg;
 use forms::units::Tenths;
@@ -37,12 +37,14 @@ pub(crate) fn refuse_if(applies: bool, n: u8, then: Check) -> Check
 }
 
 // Rows 7, 9 and 12.
-fn event_refusal(r: Record, p: Role, t: Tenths) -> Check
-    ensures { λ c. ⌜ c ≡ firstOf (rowsOf (setOf (r .bcsm)) r (Kind.Event p) t []) ⌝ }
+fn event_refusal(r: Record, e: Event, t: Tenths) -> Check
+    ensures { λ c. ⌜ c ≡ firstOf (rowsOf (setOf (r .bcsm)) r (Kind.Event e) t []) ⌝ }
 {
     let last = r.last;
+    let stage = r.stage;
     let h = r.hold;
-    let held = record::is_held(h) & !events::is_clear_of_1(p);
+    let held = record::is_held(h) & !events::is_clear(e);
+    let p = events::role_of(e, stage);
     let possible = refuse_if(!events::can_meet(r, p), 12, Check::Pass);
     refuse_if(t.0 < last.0, 7, refuse_if(held, 9, possible))
 }
@@ -142,7 +144,7 @@ pub(crate) fn refusal(r: Record, k: Kind, t: Tenths, rest: &[u8]) -> Check
     let h = r.hold;
     match k {
         Kind::Setup(_, _, _, _, _) => Check::Fail(5),
-        Kind::Event(p) => event_refusal(r, p, t),
+        Kind::Event(e) => event_refusal(r, e, t),
         Kind::PeriodOver(leg) => period_refusal(r, leg, t),
         Kind::RequestReport(n) => control_refusal(r, t, entries_refusal(r, n, rest)),
         Kind::Continue => control_refusal(r, t, refuse_if(!record::is_held(h), 10, Check::Pass)),

@@ -140,7 +140,7 @@ pub fn early_of(item: Item, rest: &[u8], profile: &[u8]) -> Early
     ensures { λ e. ⌜ e ≡ earlyOf false item (now (rest .entry)) (now (profile .entry)) ⌝ }
 {
     let body = item.body;
-    let k = kind::kind_of(body, Stage::Analysing);
+    let k = kind::kind_of(body);
     match k {
         Kind::Setup(bcsm, nature, service, forwarded, count) => read_opening(
             bcsm,
@@ -164,7 +164,7 @@ pub fn set_up(item: Item, rest: &[u8], o: Opening) -> Stepped
     let triggered = o.triggered;
     let timer = o.timer;
     let handling = o.handling;
-    let k = kind::kind_of(body, Stage::Analysing);
+    let k = kind::kind_of(body);
     if t.0 >= Tenths::CLOCK_END.0 {
         return answers::refuse(record::blank_record(), 1);
     }

@@ -10,7 +10,6 @@ use crate::events;
 use crate::kind;
 use crate::kind::Kind;
 use crate::operations;
-use crate::points;
 use crate::range;
 use crate::record;
 use crate::record::Record;
@@ -26,9 +25,10 @@ fn serve(r: Record, k: Kind, t: Tenths, rest: &[u8]) -> Stepped
     requires { ⌜ t .0 < clockEnd ⌝ }
     ensures { λ s. ⌜ s ≡ served (setOf (r .bcsm)) r k t (now (rest .entry)) ⌝ }
 {
+    let stage = r.stage;
     match k {
         Kind::Setup(_, _, _, _, _) => answers::refuse(r, 5),
-        Kind::Event(p) => events::meet(r, p, t),
+        Kind::Event(e) => events::meet(r, events::role_of(e, stage), t),
         Kind::PeriodOver(leg) => operations::period_over(r, leg, t),
         Kind::RequestReport(n) => request::request_report(r, n, rest, t),
         Kind::Continue => operations::continue_on(r, t),
@@ -46,8 +46,7 @@ pub fn respond(r: Record, item: Item, rest: &[u8]) -> Stepped
 {
     let body = item.body;
     let t = item.time;
-    let stage = r.stage;
-    let k = kind::kind_of(body, stage);
+    let k = kind::kind_of(body);
     let c = refusals::refuse_if(
         !(t.0 < Tenths::CLOCK_END.0),
         1,

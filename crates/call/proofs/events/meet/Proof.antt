@@ -19,7 +19,7 @@ returns-2 c =
     let l = a .before .before .before in
     let b = l .before .before in
     let m = b .before in
-    rw (c .go-on .ensures, c .before .made .ensures, c .before .before .stage-after .ensures, a .disarm .ensures, l .leg-after2 .ensures, l .before .leg-after .ensures, m .by-mode .ensures, ← m .before .mode-at .ensures, sym (ap (λ x. x .over) (m .by-mode .ensures)) ∙ b .if1 .left)
+    rw (← m .before .mode-at .ensures, sym (ap (λ x. x .over) (m .by-mode .ensures)) ∙ b .if1 .left, c .go-on .ensures, c .before .made .ensures, c .before .before .stage-after .ensures, a .disarm .ensures, l .leg-after2 .ensures, l .before .leg-after .ensures, m .by-mode .ensures)
 
 pub meet-spec : {M : Type 1} → statement M
 meet-spec =

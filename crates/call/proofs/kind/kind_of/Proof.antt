@@ -1,4 +1,4 @@
--- `call::kind::kind_of` meets its contract: an arm for each body; the role of a Clear is `clear_of`'s.
+-- `call::kind::kind_of` meets its contract: an arm for each body.
 use borrow.Author.Needs.{needs}
 use Rattle.call.proofs.kind.kind_of.Statement.{statement}
 use Rattle.call.proofs.kind.kind_of.Tie as tie
@@ -8,7 +8,7 @@ kind-of-spec =
     tie.close
     (tie.spec (search needs) (search needs) (search needs) (search needs) (search needs) (search needs) (search needs)
     (search needs) (search needs) (search needs) (search needs) (search needs) (search needs) (search needs)
-    (search needs) (search needs) (search needs) (search needs)
+    (search needs) (search needs) (search needs)
     (λ c. simp (c .before .body .given .1))
     (λ c. simp (c .enum-told .given .1))
     (λ c. simp (c .enum-told2 .given .1))
@@ -17,7 +17,7 @@ kind-of-spec =
     (λ c. simp (c .enum-told5 .given .1))
     (λ c. simp (c .enum-told6 .given .1))
     (λ c. simp (c .enum-told7 .given .1))
-    (λ c. simp (c .clear-of .ensures, c .before .before .body2 .given .1))
+    (λ c. simp (c .before .body2 .given .1))
     (λ c. simp (c .before .body3 .given .1))
     (λ c. simp (c .before .body4 .given .1))
     (λ c. simp (c .enum-told8 .given .1))

@@ -4,7 +4,6 @@ use borrow.Author.Needs.{needs}
 use denote.Enum.Declared.{tagOf}
 use types.Run.{OneOf}
 use Rattle.call.specs.Types.{Kind}
-use Rattle.call.specs.declared.stages.Stage.the-variants.{Analysing}
 use Rattle.call.specs.Kind.{kindOf}
 use Rattle.call.proofs.kind.Kind.{the-type}
 use Rattle.call.proofs.SetupLaws.{others, no-setup, early-setup, early-other}
@@ -20,7 +19,7 @@ returns c =
 returns-2 : tie.Need-returns-2
 returns-2 c =
     let a = c .before .before .before .before .args in
-    early-other (a .item) (a .rest .now) (a .profile .now) (λ A. no-setup A (kindOf (a .item .body) Analysing) (subst (λ (k : Kind). OneOf others (tagOf the-type k)) (c .before .kind-of .ensures) (c .match .keys2)))
+    early-other (a .item) (a .rest .now) (a .profile .now) (λ A. no-setup A (kindOf (a .item .body)) (subst (λ (k : Kind). OneOf others (tagOf the-type k)) (c .before .kind-of .ensures) (c .match .keys2)))
 
 pub early-of-spec : {M : Type 1} → statement M
 early-of-spec = tie.close (tie.spec (search needs) (search needs) (search needs) returns returns-2)

@@ -8,9 +8,9 @@ serve-spec =
     tie.close
     (tie.spec (search needs) (search needs) (search needs) (search needs) (search needs) (search needs) (search needs)
     (search needs) (search needs) (search needs) (search needs) (search needs) (search needs) (search needs)
-    (search needs) (search needs) (search needs) (search needs) (search needs) (search needs) (search needs)
+    (search needs) (search needs) (search needs) (search needs) (search needs) (search needs) (search needs) (search needs)
     (λ c. simp (c .refuse .ensures, c .before .enum-told .given .1))
-    (λ c. simp (c .meet .ensures, c .before .before .k .given .1))
+    (λ c. simp (c .meet .ensures, c .before .role-of .ensures, c .before .before .before .k .given .1))
     (λ c. simp (c .period-over .ensures, c .before .before .k2 .given .1))
     (λ c. simp (c .request-report .ensures, c .before .before .k3 .given .1))
     (λ c. simp (c .continue-on .ensures, c .before .enum-told2 .given .1))
