@@ -208,7 +208,7 @@ module _ (l : List Turn) (r : Started l) where
   its-lines : map line l ≡ log feedStep (fresh ourSlots) (map fed l)
   its-lines = ran-lines (fresh ourSlots) l r
 
-  its-end : ending l ≡ final feedStep (fresh ourSlots) (map fed l)
+  pub its-end : ending l ≡ final feedStep (fresh ourSlots) (map fed l)
   its-end = ran-end (fresh ourSlots) l r
 
 demand3 : Demand3

@@ -1,10 +1,12 @@
 pub mod Demands
+pub mod NoOrphan
 pub mod Cases
 pub mod Ours
 pub mod Independence
 pub mod Step
 pub mod Valid
 pub mod Promises
+pub mod Reached
 pub mod Apart
 pub mod Lists
 pub mod CheckLaws

@@ -6,6 +6,7 @@ use mathlib.Core.Bool.{Bool, true, false, not, cond, _&&_, false≢true}
 use mathlib.Core.List.{List, [], _∷_}
 use mathlib.Core.Option.{Option, none, some}
 use native.Mathlib.Omega.{arith}
+use lib.Dec.{eqb}
 use lib.ListN.{replicate}
 use Rattle.forms.specs.Bytes.{all, contains, same}
 use Rattle.forms.specs.Item.{itemBytes, itemInRange, restOf, isItem}
@@ -21,17 +22,20 @@ use Rattle.call.specs.Setup.{openOf}
 use Rattle.call.specs.Alone.{Input, aloneStep}
 use Rattle.call.specs.Alone as alone
 use Rattle.call.proofs.Blank.{blank-passes}
+use Rattle.call.proofs.Laws.{by-cond}
 use Rattle.call.proofs.SetupLaws.{setup-opens}
 use Rattle.call.proofs.InRange.{isLeftWell, respond-left, open-left}
 use Rattle.call.proofs.CallTheorems.{isOver}
 use Rattle.call.proofs.Numbers.{isOneOf, accepted-one, one-of-more, respondNumbers, respond-numbers}
 use Rattle.table.specs.Types.{Item, Record, Answer, Stepped, Slot}
-use Rattle.table.specs.Table.{refuses, goes, ends, unless, fresh, Done}
+use Rattle.table.specs.Runs.{final}
+use Rattle.table.specs.Table.{refuses, goes, ends, look, unless, fresh, Done}
 use Rattle.table.specs.Slot.{blankSlot, ourSlots}
-use Rattle.table.specs.Feed.{itemIn, restIn, early, effectAs, ourCall, isSoundTable, feedOf, turn, Feeds}
+use Rattle.table.specs.Feed.{itemIn, restIn, early, effectAs, ourCall, isSoundTable, feedStep, feedOf, turn, Feeds}
 use Rattle.table.specs.Independence.{Independence}
-use Rattle.table.proofs.Promises.{Kept, keep, setupAlone, otherAlone, serveAlone, aloneAs, onNext, Promises}
+use Rattle.table.proofs.Promises.{Kept, keep, setupAlone, otherAlone, serveAlone, aloneAs, OnNext, Promises}
 use Rattle.table.proofs.Independence.{independence, stays-sound, fresh-is-sound}
+use Rattle.table.proofs.Reached.{reached}
 
 -- ---- what is neither 1 nor 2: an item, and of a Setup its profile
 
@@ -68,19 +72,17 @@ pub open-remains : {A : Type 0} (a : Answer) (before over next : A) → (isAccep
 open-remains (Accepted o) before over next q = rw (q .1)
 open-remains (Refused n) before over next q = absurd (false≢true (q .0))
 
+-- what holds of the next record, where there is one
+on-effect : (P : Record → Type 0) (a : Answer) (next : Record) → (isAccepted a ≡ true → isOver a ≡ false → P next) → OnNext P (effectAs a next)
+on-effect P (Refused n) next f = tt
+on-effect P (Accepted o) next f = by-cond (OnNext P) (o .over) _ _ (λ e. tt) (f refl)
+
 -- ---- in range in, in range out
 
-left-in-range : (s : Stepped) (t : Tenths) → isLeftWell t s ≡ true → onNext recordInRange (effectAs (s .answer) (s .next)) ≡ true
-left-in-range s t h =
-    on-remains (onNext recordInRange) (s .answer) (refuses (s .answer)) (ends (s .answer)) (goes (s .answer) (s .next)) ∙ go (s .answer) (recordInRange (s .next)) _ h
-  where
-    go : (a : Answer) (b c : Bool) → remains a true true (b && c) ≡ true → remains a true true b ≡ true
-    go (Refused n) b c h = refl
-    go (Accepted o) b c h = by (o .over) h
-      where
-        by : (over : Bool) → cond over true (b && c) ≡ true → cond over true b ≡ true
-        by true h = refl
-        by false h = and-left b c h
+left-in-range : (s : Stepped) (t : Tenths) → isLeftWell t s ≡ true → (isAccepted (s .answer) ≡ true) × (isOver (s .answer) ≡ false) → recordInRange (s .next) ≡ true
+left-in-range s t h q =
+    let in-time = eqb (s .next .last .0) (t .0) in
+    and-left (recordInRange (s .next)) in-time (sym (open-remains (s .answer) true true (recordInRange (s .next) && in-time) q) ∙ h)
 
 -- ---- the call by itself is made of the same parts
 
@@ -133,9 +135,12 @@ module _ (x : Input) where
 
 begin-in-range : (x : Input) → early x ≡ none → isSetup (itemIn x) ≡ true → recordInRange (openOf (itemIn x) (restIn x) (x .profile) .next) ≡ true
 begin-in-range x e h =
-    let s = openOf (itemIn x) (restIn x) (x .profile) in
-    let q = setup-opens (itemIn x) (restIn x) (x .profile) (item-in-range x e) h (checks x e .1 h) in
-    rw (open-remains (s .answer) (refuses (s .answer)) (ends (s .answer)) (goes (s .answer) (s .next)) q) at (left-in-range s (itemIn x .time) (open-left (itemIn x) (restIn x) (x .profile)))
+    left-in-range (openOf (itemIn x) (restIn x) (x .profile)) (itemIn x .time) (open-left (itemIn x) (restIn x) (x .profile)) (setup-opens (itemIn x) (restIn x) (x .profile) (item-in-range x e) h (checks x e .1 h))
+
+respond-in-range : (r : Record) (x : Input) → early x ≡ none → recordInRange r ≡ true → OnNext (λ next. recordInRange next ≡ true) (ourCall .respond r x)
+respond-in-range r x e h =
+    let s = respondOf r (itemIn x) (restIn x) in
+    on-effect (λ next. recordInRange next ≡ true) (s .answer) (s .next) (λ a o. left-in-range s (itemIn x .time) (respond-left r (itemIn x) (restIn x) h (item-in-range x e)) (a, o))
 
 promises : Promises ourCall ourSlots
 unfolding blankSlot contains
@@ -146,7 +151,7 @@ promises =
       owner-blank = refl;
       blank-blank = blank-passes;
       begin-range = begin-in-range;
-      respond-range = λ r x e h o. left-in-range (respondOf r (itemIn x) (restIn x)) (itemIn x .time) (respond-left r (itemIn x) (restIn x) o (item-in-range x e));
+      respond-range = λ r x e h o. respond-in-range r x e o;
       alone-is = λ v x. alone-as x v .0;
       alone-never-3 = λ v x. never 3 _ refl (alone-as x v .1);
       room-is-not-3 = λ e. absurd (let z : _≡_ {A = ℕ} 6 3 = cc in omega arith);
@@ -155,6 +160,15 @@ promises =
 -- demand 3
 pub ours : Independence ourCall ourSlots
 ours = independence ourCall ourSlots promises
+
+-- what holds of each call that opens and of what an item leaves, unless the call is over, holds of each call that a run reaches
+pub our-reached : (P : Record → Type 0) → ((i : Item) (rest s : List ℕ) → isAccepted (openOf i rest s .answer) ≡ true → P (openOf i rest s .next))
+    → ((r : Record) → P r → (i : Item) (rest : List ℕ) → isOver (respondOf r i rest .answer) ≡ false → P (respondOf r i rest .next))
+    → (l : List Input) (k : ℕ) (r : Record) → look ourSlots k (final feedStep (fresh ourSlots) l) ≡ some r → P r
+our-reached P opened kept =
+    reached ourCall ourSlots promises P
+    (λ x e h. opened (itemIn x) (restIn x) (x .profile) (setup-opens (itemIn x) (restIn x) (x .profile) (item-in-range x e) h (checks x e .1 h) .0))
+    (λ r x p. let s = respondOf r (itemIn x) (restIn x) in on-effect P (s .answer) (s .next) (λ a. kept r p (itemIn x) (restIn x)))
 
 -- a sound table stays so, whatever is fed
 pub stays : (t : List Slot) (item profile : List ℕ) → isSoundTable t ≡ true → isSoundTable (feedOf t item profile .1) ≡ true

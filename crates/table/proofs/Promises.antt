@@ -35,11 +35,11 @@ module _ (c : OneCall) where
 
 -- ---- the promises
 
--- the next record, if there is one, passes the test
-abbrev pub onNext : {Answer Rec : Type 0} → (Rec → Bool) → Effect Answer Rec → Bool
-onNext p (refuses a) = true
-onNext p (goes a r) = p r
-onNext p (ends a) = true
+-- of the next record, if there is one
+abbrev pub OnNext : {Answer Rec : Type 0} → (Rec → Type 0) → Effect Answer Rec → Type 0
+OnNext P (refuses a) = Unit {0}
+OnNext P (goes a r) = P r
+OnNext P (ends a) = Unit {0}
 
 pub record Promises (c : OneCall) (m : Slots (c .Rec)) : Type 0 where
   -- a slot holds what was put in, and a blank one is free
@@ -49,7 +49,7 @@ pub record Promises (c : OneCall) (m : Slots (c .Rec)) : Type 0 where
   pub blank-blank : m .isBlank (m .blank) ≡ true
   -- in range in, in range out
   pub begin-range : (x : c .Item) → c .early x ≡ none → c .isSetup x ≡ true → m .inRange (c .begin x .1) ≡ true
-  pub respond-range : (r : c .Rec) (x : c .Item) → c .early x ≡ none → c .isSetup x ≡ false → m .inRange r ≡ true → onNext (m .inRange) (c .respond r x) ≡ true
+  pub respond-range : (r : c .Rec) (x : c .Item) → c .early x ≡ none → c .isSetup x ≡ false → m .inRange r ≡ true → OnNext (λ next. m .inRange next ≡ true) (c .respond r x)
   -- the call by itself is made of these parts; it never answers 3, and 6 is another answer
   pub alone-is : (v : Option (c .Rec)) (x : c .Item) → c .alone v x ≡ aloneAs c v x
   pub alone-never-3 : (v : Option (c .Rec)) (x : c .Item) → c .alone v x .0 ≢ c .refused 3

@@ -87,7 +87,7 @@ module _ {Rec : Type 0} (m : Slots Rec) where
     pub holds : Holds k v (getD t i blank)
     pub lone : length (slotsOf k t) ≤ length (slotsOf k (getD t i blank ∷ []))
 
-  owner-is : (k : ℕ) (o : Option ℕ) → isCall k o ≡ true → o ≡ some k
+  pub owner-is : (k : ℕ) (o : Option ℕ) → isCall k o ≡ true → o ≡ some k
   owner-is k none e = cc
   owner-is k (some j) e = ap some (eqb-true j k e)
 

@@ -1,4 +1,5 @@
 pub mod Demands
+pub mod NoOrphan
 pub mod Types
 pub mod Runs
 pub mod Table
