@@ -5,6 +5,7 @@
 //! Document 01, sections "The listing program" and "Both sides of each edge";
 //! document 02, T-02 and T-03.
 
+mod hung_up;
 mod terminating;
 
 use crate::bench::measure;

@@ -19,7 +19,7 @@ pub fn draw_legend(svg: &mut Svg, columns: &Columns, chart: &Chart, top: i32) ->
         ),
         (
             |svg, spot| sample_arrow(svg, Form::Notification, spot),
-            "report that only notifies: the call goes on",
+            "report that only notifies: it does not hold the call",
         ),
         (
             |svg, spot| sample_arrow(svg, Form::Refused, spot),

@@ -216,6 +216,36 @@ fn legs_and_holds_of_a_follow_on_call() {
     assert_eq!(ladder.holds, expected);
 }
 
+/// Leg 2 and its charge end where the called party hangs up; the hold and leg 1's
+/// charge last on.
+#[test]
+fn hung_up_while_held() {
+    let ladder = ladder(
+        "profile continue 60
+        0 call 1 setup 4/49151 service 17
+        0 call 1 request-report 7/2 interrupted, 9/2 notify
+        0 call 1 apply-charging leg 1 period 600
+        0 call 1 apply-charging leg 2 period 600
+        0 call 1 continue
+        40 call 1 answer
+        50 call 1 clear leg 2 cause 16
+        60 call 1 continue",
+    );
+    assert_eq!(ladder.legs[0], [run((), 0, Some(7))]);
+    assert_eq!(ladder.legs[1], [run((), 0, Some(6))]);
+    let expected = [
+        run(point(2, Leg::One), 0, Some(4)),
+        run(point(7, Leg::Two), 5, Some(7)),
+    ];
+    assert_eq!(ladder.holds, expected);
+    let ended = |charge: &Charge| (charge.ended, charge.reported);
+    let expected = [(Some(7), Some(Tenths(20))), (Some(6), Some(Tenths(10)))];
+    assert_eq!(
+        ladder.charges.iter().map(ended).collect::<Vec<_>>(),
+        expected
+    );
+}
+
 /// In a terminating call Mid-call and Moved come from the called party, and the
 /// points have their own names.
 #[test]

@@ -2,18 +2,22 @@
 //! sound tables with any records in range, and tables that refusal 3 is for.
 //!
 //! Document 01, section "The call table", and row 3 of "Numbered refusals";
-//! document 02, T-04: tables that mix both kinds of call.
+//! document 02, T-04: tables that mix both kinds of call; T-05: called parties that
+//! hang up where no run holds the call.
 
 use crate::compare::counts::{self, Counts};
-use crate::compare::coverage::of_kind;
+use crate::compare::coverage::{of_kind, refusal_form, MODES};
 use crate::compare::generate::{Generator, KINDS};
+use crate::compare::hung_up;
 use crate::compare::program::{Answers, Input, Program};
 use crate::compare::random::Random;
 use crate::compare::shown;
 use crate::compare::tables::{self, read_entry, Case, ENTRY_BYTES};
 use crate::output;
 use crate::paper::answer::{Answer, Refusal};
-use crate::paper::forms::{kind, read_item, CallKind, Handling, Leg, Seconds, Tenths, TIME_END};
+use crate::paper::forms::{
+    kind, read_item, Body, CallKind, Handling, Item, Leg, Seconds, Tenths, TIME_END,
+};
 use crate::paper::record::{Armings, CalledNumber, Charge, Hold, Mode, Part, Record, Stage};
 use crate::paper::table::{self, Entry, ENTRIES};
 use crate::texts;
@@ -203,9 +207,9 @@ fn generate(seed: u64) -> (Case, Vec<&'static str>) {
     let mut table = sound_table(&mut random);
     let item_call = call_of_item(&mut random, &table);
     let mut generator = Generator::new(random, 1);
-    let owned = table.iter().find(|entry| entry.owner == Some(item_call));
-    let item = match owned {
-        Some(entry) => item_for(&mut generator, item_call, &entry.record),
+    let mut entries = table.iter_mut();
+    let item = match entries.find(|entry| entry.owner == Some(item_call)) {
+        Some(entry) => item_for(&mut generator, item_call, &mut entry.record),
         None if generator.random.chance(10) => generator.any_item(item_call, None),
         None => generator.setup(item_call),
     };
@@ -214,9 +218,9 @@ fn generate(seed: u64) -> (Case, Vec<&'static str>) {
         1 => [&item[..], &[0]].concat(),
         _ => item,
     };
-    let damages = match generator.random.below(10) {
-        0..=7 => 0,
-        8 => 1,
+    let damages = match generator.random.below(20) {
+        0..=16 => 0,
+        17 | 18 => 1,
         _ => 3,
     };
     let mut names = Vec::new();
@@ -232,18 +236,27 @@ fn generate(seed: u64) -> (Case, Vec<&'static str>) {
 }
 
 /// Those whose own refusals are rare.
-const RARELY_REFUSED: [u8; 4] = [
+const RARELY_REFUSED: [u8; 8] = [
+    kind::PERIOD_OVER,
+    kind::PERIOD_OVER,
     kind::PERIOD_OVER,
     kind::REQUEST_REPORT,
     kind::REQUEST_REPORT,
+    kind::REQUEST_REPORT,
     kind::CONTINUE,
+    kind::APPLY_CHARGING,
 ];
 
-/// Often one that is possible now; else of any kind, be it rare in a scenario.
-fn item_for(generator: &mut Generator, call: u32, record: &Record) -> Vec<u8> {
-    let kind = match generator.random.below(10) {
+/// Often one that is possible now, or a called party that hangs up while the call
+/// is held; else of any kind, be it rare in a scenario.
+fn item_for(generator: &mut Generator, call: u32, record: &mut Record) -> Vec<u8> {
+    let kind = match generator.random.below(20) {
         0..=2 => return generator.possible_item(call, record),
-        3..=6 => generator.random.pick(&KINDS).0,
+        3..=6 => {
+            become_held(&mut generator.random, record);
+            return generator.hang_up(call, record);
+        }
+        7..=13 => generator.random.pick(&KINDS).0,
         _ => generator.random.pick(&RARELY_REFUSED),
     };
     generator.item(kind, call, Some(record))
@@ -303,13 +316,28 @@ fn record_in_range(random: &mut Random, terminating: u64) -> Record {
 }
 
 fn hold_in_range(random: &mut Random, call_kind: CallKind) -> Option<Hold> {
-    match random.below(4) {
-        0 | 1 => None,
-        2 => Some(Hold::Trigger),
-        _ => Some(random.pick(&Part::ALL))
-            .filter(|part| call_kind.can_arm(*part, Mode::Interrupted))
-            .map(Hold::At),
+    random.chance(50).then(|| any_hold(random, call_kind))
+}
+
+fn any_hold(random: &mut Random, call_kind: CallKind) -> Hold {
+    if random.chance(50) {
+        return Hold::Trigger;
     }
+    let mut parts = Part::ALL.to_vec();
+    parts.retain(|part| call_kind.can_arm(*part, Mode::Interrupted));
+    Hold::At(random.pick(&parts))
+}
+
+/// Makes the record one of a call that is held, mostly active, with leg 1 or
+/// without it; whose called party can mostly hang up, and is heard of or not.
+fn become_held(random: &mut Random, record: &mut Record) {
+    record.hold = Some(any_hold(random, record.call_kind));
+    record.stage = match random.chance(60) {
+        true => Stage::Active,
+        false => random.pick(&[Stage::Analysing, Stage::Alerting]),
+    };
+    record.present = [random.chance(50), random.chance(70)];
+    record.armings.set(Part::Disconnect2, random.pick(&MODES));
 }
 
 fn armings_in_range(random: &mut Random, call_kind: CallKind) -> Armings {
@@ -441,8 +469,8 @@ fn read_answer(answers: &mut Answers, number: u64, entries: usize) -> Result<Vec
 }
 
 /// All the answers have to come up, those of an open call for both kinds of
-/// call, all mixtures of both, all kinds of damage; and items of all kinds for
-/// records of both that no run reaches.
+/// call, all mixtures of both, all kinds of damage; and for records of both that no
+/// run reaches, items of all kinds and all that T-05 is about.
 fn wanted() -> Vec<(&'static str, Vec<String>)> {
     let answers = [1, 2, 3, 4, 6].map(refusal_form).into_iter();
     let of_open = [ACCEPTED.to_string()].into_iter();
@@ -451,6 +479,8 @@ fn wanted() -> Vec<(&'static str, Vec<String>)> {
     let unreached = CallKind::BOTH.into_iter();
     let unreached =
         unreached.flat_map(|call_kind| KINDS.map(|(kind, _)| unreached_form(call_kind, kind)));
+    let hung_up = CallKind::BOTH.into_iter();
+    let hung_up = hung_up.flat_map(|kind| hung_up::wanted(kind, hung_up::HELD_IN_TABLES));
     let wrong_counts = WRONG_COUNTS.iter().map(|(name, _)| *name);
     let damages = OUT_OF_RANGE.iter().chain(&NOT_BLANK).map(|(name, _)| *name);
     let names = wrong_counts.chain(damages).chain([ONE_CALL_TWICE]);
@@ -458,6 +488,7 @@ fn wanted() -> Vec<(&'static str, Vec<String>)> {
         ("answers", answers.chain(of_open).collect()),
         ("sound tables", MIXTURES.map(String::from).to_vec()),
         ("records that no run reaches", unreached.collect()),
+        ("Clear of leg 2 while held, for these", hung_up.collect()),
         ("damage", names.map(String::from).collect()),
     ]
 }
@@ -469,10 +500,6 @@ const MIXTURES: [&str; 4] = [
     "only terminating calls",
     "both kinds of call",
 ];
-
-fn refusal_form(number: u8) -> String {
-    format!("refused {number}")
-}
 
 fn answer_form(answer: &Answer) -> String {
     match answer {
@@ -506,27 +533,42 @@ fn count_case(counts: &mut Counts, table: &[Entry], item: &[u8], answer: &Answer
         return counts.count(answer_form(answer));
     }
     counts.count(mixture_form(table).to_string());
-    let call = read_item(item).map(|item| item.call);
-    let open = table.iter().find(|entry| entry.owner == call);
+    let Some(Item { call, body, .. }) = read_item(item) else {
+        return; // refused as malformed, and counted
+    };
+    let open = table.iter().find(|entry| entry.owner == Some(call));
     let Some(record) = open.map(|entry| &entry.record) else {
         return counts.count(answer_form(answer));
     };
     counts.count(of_kind(record.call_kind, &answer_form(answer)));
     if no_run_reaches(record) {
         counts.count(unreached_form(record.call_kind, item[3]));
+        if let Body::Other(other) = &body {
+            hung_up::count(counts, record, other, answer);
+        }
     }
 }
 
 /// A sure sign of it: legs or a stage that do not go with the hold.
-fn no_run_reaches(record: &Record) -> bool {
-    let both = record.present == [true; 2];
-    match record.hold {
-        None => !both,
-        Some(Hold::Trigger) => !both || record.stage != Stage::Analysing,
-        // Only a point that ends its leg can be met while the call stays held.
-        Some(Hold::At(Part::MidCall | Part::Answer | Part::Seized)) => !both,
-        Some(Hold::At(_)) => both,
-    }
+pub fn no_run_reaches(record: &Record) -> bool {
+    let [leg_1, leg_2] = record.present;
+    let is_active = record.stage == Stage::Active;
+    let goes_with_hold = match record.hold {
+        None => leg_1 && leg_2,
+        Some(Hold::Trigger) => leg_1 && leg_2 && record.stage == Stage::Analysing,
+        Some(Hold::At(part)) => match part {
+            Part::Seized => leg_1 && leg_2 && record.stage == Stage::Alerting,
+            Part::RouteFailure | Part::Busy | Part::NoAnswer => leg_1 && !leg_2 && !is_active,
+            Part::Abandon => !leg_1 && !is_active,
+            // Leg 2 may have gone since (T-05). At a Disconnect the other leg may have
+            // gone before.
+            Part::Answer | Part::MidCall => leg_1 && is_active,
+            Part::Disconnect1 => !leg_1 && is_active,
+            Part::Disconnect2 => !leg_2 && is_active,
+            Part::Moved => false,
+        },
+    };
+    !goes_with_hold
 }
 
 /// The item, both answers, and the entry concerned before and afterwards: the

@@ -2,7 +2,7 @@
 //! program's own answers.
 
 use crate::compare::counts::{self, Counts};
-use crate::compare::generate;
+use crate::compare::{generate, hung_up};
 use crate::paper::answer::{Accepted, Answer, Refusal};
 use crate::paper::call::{occurs_at, part_met};
 use crate::paper::forms::{
@@ -15,7 +15,7 @@ use crate::paper::trigger::triggers;
 use crate::texts;
 use std::ops::Range;
 
-const MODES: [Option<Mode>; 3] = [None, Some(Mode::Interrupted), Some(Mode::Notify)];
+pub const MODES: [Option<Mode>; 3] = [None, Some(Mode::Interrupted), Some(Mode::Notify)];
 const OPERATIONS: [&str; 7] = [
     "request-report",
     "continue",
@@ -38,8 +38,8 @@ pub fn run(seeds: Range<u64>) -> Result<bool, String> {
     counts::conclude(&format!("{count} scenarios, {items} items"), missing)
 }
 
-/// The forms that have to be reached, in groups, by the rules of document 01
-/// and T-04 of document 02.
+/// The forms that have to be reached, in groups, by the rules of document 01,
+/// and T-04 and T-05 of document 02.
 pub fn wanted() -> Vec<(&'static str, Vec<String>)> {
     let of_both = |forms: fn(CallKind) -> Vec<String>| {
         let forms = CallKind::BOTH.into_iter().flat_map(forms);
@@ -60,6 +60,7 @@ pub fn wanted() -> Vec<(&'static str, Vec<String>)> {
             of_both(wanted_holds),
         ),
         ("events by point, mode and stage", of_both(wanted_events)),
+        ("Clear of leg 2 while held", of_both(wanted_hung_up)),
         ("operations by stage", of_both(wanted_operations)),
     ]
 }
@@ -135,7 +136,8 @@ fn wanted_events(call_kind: CallKind) -> Vec<String> {
                 .filter(|stage| occurs_at(*stage, part))
             {
                 forms.push(event_form(point, mode, stage, false));
-                // While held, only a Clear of leg 1 is accepted.
+                // While held, only a Clear is accepted; that of leg 2 is counted by
+                // itself.
                 if matches!(part, Part::Abandon | Part::Disconnect1) {
                     forms.push(event_form(point, mode, stage, true));
                 }
@@ -143,6 +145,10 @@ fn wanted_events(call_kind: CallKind) -> Vec<String> {
         }
     }
     forms
+}
+
+fn wanted_hung_up(call_kind: CallKind) -> Vec<String> {
+    hung_up::wanted(call_kind, hung_up::HELD_IN_RUNS)
 }
 
 fn wanted_operations(call_kind: CallKind) -> Vec<String> {
@@ -174,7 +180,7 @@ pub fn of_kind(call_kind: CallKind, form: &str) -> String {
     format!("{} {form}", kind_name(call_kind))
 }
 
-fn refusal_form(number: u8) -> String {
+pub fn refusal_form(number: u8) -> String {
     format!("refused {number}")
 }
 
@@ -205,7 +211,7 @@ fn other_pair_form(call_kind: CallKind, point: Point) -> String {
     of_kind(call_kind, &format!("names {}", pair(point)))
 }
 
-fn pair(point: Point) -> String {
+pub fn pair(point: Point) -> String {
     format!("{}/{}", point.number, point.leg.number())
 }
 
@@ -226,9 +232,12 @@ fn relationship_form(
 }
 
 fn event_form(point: Point, mode: Option<Mode>, stage: Stage, held: bool) -> String {
-    let mode = mode.map_or("unarmed".to_string(), |mode| format!("{mode:?}"));
     let held = if held { " held" } else { "" };
-    format!("{} {mode} {stage:?}{held}", pair(point))
+    format!("{} {} {stage:?}{held}", pair(point), mode_name(mode))
+}
+
+pub fn mode_name(mode: Option<Mode>) -> String {
+    mode.map_or("unarmed".to_string(), |mode| format!("{mode:?}"))
 }
 
 fn operation_form(call_kind: CallKind, name: &str, stage: Stage) -> String {
@@ -317,6 +326,7 @@ fn count_setup(
 /// An item for an open call.
 fn count_item(counts: &mut Counts, before: &Record, item: &Other, answer: &Answer) {
     let call_kind = before.call_kind;
+    hung_up::count(counts, before, item, answer);
     match answer {
         Ok(answer) => {
             count_answer(counts, call_kind, answer);

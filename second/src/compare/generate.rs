@@ -7,7 +7,8 @@ use crate::compare::random::Random;
 use crate::paper::answer::{Accepted, Answer, Refusal};
 use crate::paper::call;
 use crate::paper::forms::{
-    kind, read_item, read_profile, with_length_and_version, write_item, Body, CallKind, TIME_END,
+    kind, read_item, read_profile, with_length_and_version, write_item, Body, CallKind, Leg,
+    TIME_END,
 };
 use crate::paper::record::{Hold, Part, Record, Relationship};
 use crate::paper::table::{self, Entry, ENTRIES};
@@ -40,6 +41,10 @@ const RARE_REFUSALS: [Refusal; 3] = [
     Refusal::ChargePending,
     Refusal::PeriodNotOver,
 ];
+
+/// In so many percent the called party hangs up next, if the call is held at a
+/// point that it met.
+const HANGS_UP: u64 = 20;
 
 /// One scenario: a profile, then items, as the listing program takes them.
 pub fn scenario(seed: u64) -> Vec<u8> {
@@ -178,8 +183,12 @@ impl Generator {
 
     /// An item that the call mostly accepts, and that mostly leaves a
     /// relationship if there was one; but for a Clear while the call is held, and
-    /// what is reported at the end of a call, which both are rare as it is.
+    /// what is reported at the end of a call, which both are rare as it is. Of a call
+    /// held at a met point the called party often hangs up, possible or not.
     pub fn possible_item(&mut self, call: u32, record: &Record) -> Vec<u8> {
+        if is_held_at_met_point(record) && self.random.chance(HANGS_UP) {
+            return self.hang_up(call, record);
+        }
         loop {
             let item = self.any_item(call, Some(record));
             let percent = match try_item(record, &item) {
@@ -193,6 +202,13 @@ impl Generator {
                 return item;
             }
         }
+    }
+
+    /// The called party hangs up, whether that is possible now or not.
+    pub fn hang_up(&mut self, call: u32, record: &Record) -> Vec<u8> {
+        self.bad_value = false;
+        let body = [Leg::Two.number(), self.cause()];
+        write_item(kind::CLEAR, call, self.time(Some(record)), &body)
     }
 
     /// An item of any kind.
@@ -408,8 +424,11 @@ fn try_item(record: &Record, item: &[u8]) -> Option<Answer> {
 /// An event that is reported, or a Clear that finds the call held at a point that
 /// it met.
 fn is_rare(record: &Record, item: &[u8], answer: &Accepted) -> bool {
-    let is_held = matches!(record.hold, Some(Hold::At(_)));
-    answer.event_report.is_some() || is_held && item[3] == kind::CLEAR
+    answer.event_report.is_some() || is_held_at_met_point(record) && item[3] == kind::CLEAR
+}
+
+fn is_held_at_met_point(record: &Record) -> bool {
+    matches!(record.hold, Some(Hold::At(_)))
 }
 
 fn loses_relationship(record: &Record, answer: &Accepted) -> bool {

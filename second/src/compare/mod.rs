@@ -15,6 +15,7 @@ pub mod triggers;
 // What has to be reached.
 pub mod counts;
 pub mod coverage;
+pub mod hung_up;
 
 // The commands that compare and list.
 pub mod check;

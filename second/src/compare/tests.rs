@@ -1,9 +1,11 @@
 //! Listings: with a difference, with a range, of a listing; and what is said of
-//! a program whose output is none.
+//! a program whose output is none. Records that no run reaches.
 
+use super::compare_tables::no_run_reaches;
 use super::generate;
 use super::list::list_output;
-use crate::paper::listing;
+use crate::paper::listing::{self, frames};
+use crate::paper::table;
 use crate::texts::{assemble, bytes_of, explain, Listed, Scenario};
 
 fn scenario(text: &str) -> Scenario {
@@ -207,5 +209,21 @@ fn outputs_that_are_no_listing() {
             list_output(&scenario, output.as_bytes()).err().as_deref(),
             Some(message)
         );
+    }
+}
+
+/// So that what is counted for records that no run reaches is not a run's.
+#[test]
+fn records_of_runs() {
+    for seed in 0..500 {
+        let scenario = generate::scenario(seed);
+        let frames = frames(&scenario);
+        let mut table = table::fresh();
+        for item in frames.iter().skip(1) {
+            let _ = table::feed_sound(&mut table, item, frames[0]);
+            for entry in table.iter().filter(|entry| entry.owner.is_some()) {
+                assert!(!no_run_reaches(&entry.record), "seed {seed}: {entry:?}");
+            }
+        }
     }
 }

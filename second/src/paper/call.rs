@@ -1,8 +1,8 @@
 //! The behaviour of one call: its answers and its next record.
 //!
 //! Document 01, sections "One call" and "A call by itself", and the rows 7 to
-//! 14 of "Numbered refusals"; document 02, T-01 and T-04. The rules speak of the
-//! parts that points have; which points these are is the call's kind's.
+//! 14 of "Numbered refusals"; document 02, T-01, T-04 and T-05. The rules speak of
+//! the parts that points have; which points these are is the call's kind's.
 
 use crate::paper::answer::{Accepted, Answer, Refusal};
 use crate::paper::forms::{
@@ -95,10 +95,11 @@ fn lacks_relationship(record: &Record, item: &Other) -> bool {
     }
 }
 
-/// Row 9.
+/// Row 9. By T-05 it excepts a Clear of either leg, at any stage and with any legs:
+/// where the Clear is not possible, that is row 12's.
 fn is_event_while_held(record: &Record, item: &Other) -> bool {
     match item {
-        Other::Event(Event::Clear { leg: Leg::One, .. }) => false,
+        Other::Event(Event::Clear { .. }) => false,
         Other::Event(_) => record.hold.is_some(),
         Other::PeriodOver(_) | Other::Operation(_) => false,
     }
@@ -224,14 +225,14 @@ fn meet(record: &mut Record, part: Part, answer: &mut Accepted) {
         return; // row 12 has refused it
     };
     let mode = record.armings.get(part);
-    let interrupted = mode == Some(Mode::Interrupted);
     answer.event_report = mode.map(|mode| (point, mode));
+    record.hold = hold_after(record.hold, part, mode);
     match row(part) {
         Row::AllOfLeg => {
             disarm_leg(record, point.leg);
             record.present[point.leg as usize] = false;
             report_charge(record, point.leg, answer);
-            answer.over = !interrupted;
+            answer.over = record.hold.is_none();
         }
         Row::UntilAnswer => {
             for part in UNTIL_ANSWER {
@@ -248,7 +249,16 @@ fn meet(record: &mut Record, part: Part, answer: &mut Accepted) {
         }
         _ => {}
     }
-    record.hold = interrupted.then_some(Hold::At(part));
+}
+
+/// Where a met point leaves the call held: at the point itself if that interrupts.
+/// Else nowhere; but the called party hanging up does not end a hold (T-05).
+fn hold_after(hold: Option<Hold>, met: Part, mode: Option<Mode>) -> Option<Hold> {
+    match (met, mode) {
+        (_, Some(Mode::Interrupted)) => Some(Hold::At(met)),
+        (Part::Disconnect2, _) => hold,
+        _ => None,
+    }
 }
 
 /// What a met point disarms.

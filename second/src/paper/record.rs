@@ -165,6 +165,16 @@ pub enum Hold {
     At(Part),
 }
 
+impl Hold {
+    /// None if such a call has no point for the part.
+    pub fn point(self, call_kind: CallKind) -> Option<Point> {
+        match self {
+            Hold::Trigger => Some(call_kind.trigger()),
+            Hold::At(part) => call_kind.point(part),
+        }
+    }
+}
+
 /// The mode of an armed point; an unarmed (transparent) one has none.
 #[derive(Clone, Copy, PartialEq, Eq, Debug)]
 pub enum Mode {
@@ -296,10 +306,7 @@ impl Record {
 
     /// The point of suspension, if the call is held.
     pub fn hold_point(&self) -> Option<Point> {
-        match self.hold? {
-            Hold::Trigger => Some(self.call_kind.trigger()),
-            Hold::At(part) => self.call_kind.point(part),
-        }
+        self.hold?.point(self.call_kind)
     }
 
     pub fn relationship(&self) -> Relationship {

@@ -92,7 +92,7 @@ fn continue_connect_and_abort_at_12() {
     check(&format!("{armed} 10 call 1 abort -> ok none - d610"));
     check(&format!("{armed} 10 call 1 release -> ok none - over"));
     check(&format!(
-        "{armed} 10 call 1 clear leg 2 cause 16 -> refused 9
+        "{armed} 10 call 1 clear leg 2 cause 16 -> refused 12
         10 call 1 route-failure cause 3 -> refused 9
         10 call 1 clear leg 1 cause 16 -> ok none - over"
     ));
