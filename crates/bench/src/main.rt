@@ -22,7 +22,7 @@ const LAST_FIRST: u8 = 2;
 const HEAD: usize = 5;
 
 // The next item has `size` bytes at place `at`; `left` are still to be fed, and `refused` were refused.
-#[derive(Drop)]
+#[derive(Clone, Copy)]
 pub struct State {
     pub at: usize,
     pub size: usize,

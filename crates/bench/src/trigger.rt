@@ -15,7 +15,7 @@ const COUNT: usize = 6;
 const FIRST: usize = 7;
 
 // Of one check or of several: in how many a stored number matched, and how many digit pairs were compared.
-#[derive(Drop)]
+#[derive(Clone, Copy)]
 pub struct Checked {
     pub matched: usize,
     pub pairs: usize,

@@ -12,14 +12,14 @@ use forms::item::*;
 use forms::units::Tenths;
 
 // The point at which the call is held, or none.
-#[derive(Drop)]
+#[derive(Clone, Copy)]
 pub enum Suspension {
     None,
     At(Point),
 }
 
 // The event's report: none, or for the point that was met.
-#[derive(Drop)]
+#[derive(Clone, Copy)]
 pub enum Report {
     None,
     Interrupting(Point),
@@ -27,7 +27,7 @@ pub enum Report {
 }
 
 // In their order: the event's, the charge of leg 1, the charge of leg 2.
-#[derive(Drop)]
+#[derive(Clone, Copy)]
 pub struct Reports {
     pub event: Report,
     pub charge1: ChargeReport,
@@ -35,14 +35,14 @@ pub struct Reports {
 }
 
 // When the no-answer timer runs out.
-#[derive(Drop)]
+#[derive(Clone, Copy)]
 pub enum Deadline {
     None,
     At(Tenths),
 }
 
 // What is said of an accepted item.
-#[derive(Drop)]
+#[derive(Clone, Copy)]
 pub struct Outcome {
     pub relationship: Relationship,
     pub suspension: Suspension,
@@ -51,14 +51,14 @@ pub struct Outcome {
     pub over: bool,
 }
 
-#[derive(Drop)]
+#[derive(Clone, Copy)]
 pub enum Answer {
     Accepted(Outcome),
     Refused(u8),
 }
 
 // The answer, and the record that remains: blank when the call is over, the old one when the item is refused.
-#[derive(Drop)]
+#[derive(Clone, Copy)]
 pub struct Stepped {
     pub answer: Answer,
     pub next: Record,

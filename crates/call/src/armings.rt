@@ -7,14 +7,14 @@ use crate::roles;
 use crate::roles::Role;
 
 // The monitor mode of an armed point: interrupted is 0, notify and continue 1.
-#[derive(Drop)]
+#[derive(Clone, Copy)]
 pub enum Mode {
     None,
     Notify,
     Interrupted,
 }
 
-#[derive(Drop)]
+#[derive(Clone, Copy)]
 pub struct Arming {
     pub mode: Mode,
 }

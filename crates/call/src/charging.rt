@@ -8,7 +8,7 @@ use crate::{record, stages};
 use forms::units::Tenths;
 
 // What is reported of a charge that is removed.
-#[derive(Drop)]
+#[derive(Clone, Copy)]
 pub enum ChargeReport {
     None,
     Elapsed(Tenths),

@@ -16,7 +16,7 @@ use forms::item::*;
 use forms::units::Tenths;
 
 // The nine events: kinds 2 to 8, and Clear by its leg.
-#[derive(Drop)]
+#[derive(Clone, Copy)]
 pub(crate) enum Event {
     RouteFailure,
     Busy,
@@ -91,7 +91,7 @@ pub(crate) fn can_meet(r: Record, p: Role) -> bool
 }
 
 // What becomes of a leg, and the report of its charge.
-#[derive(Drop)]
+#[derive(Clone, Copy)]
 struct LegAfter {
     state: LegState,
     report: ChargeReport,
@@ -130,7 +130,7 @@ fn leg_after(r: Record, p: Role, leg: Leg, t: Tenths) -> LegAfter
 }
 
 // What a met role does by its mode and the earlier hold: the report, the hold, and whether the call is over.
-#[derive(Drop)]
+#[derive(Clone, Copy)]
 struct ByMode {
     event: Report,
     hold: Hold,

@@ -6,7 +6,7 @@ use crate::events::Event;
 use forms::item::*;
 use forms::units::Tenths;
 
-#[derive(Drop)]
+#[derive(Clone, Copy)]
 pub(crate) enum Kind {
     // Kind of call, nature, service, forwarded, digit count.
     Setup(Bcsm, u8, u8, bool, u8),

@@ -10,21 +10,21 @@ use forms::item;
 use forms::item::*;
 
 // A detection point: its leg, and its number, which is not 0.
-#[derive(Drop)]
+#[derive(Clone, Copy)]
 pub struct Point {
     pub leg: Leg,
     pub number: u8,
 }
 
 // A role's point in each kind of call.
-#[derive(Drop)]
+#[derive(Clone, Copy)]
 pub(crate) struct RolePoints {
     pub originating: Point,
     pub terminating: Point,
 }
 
 // The role that two numbers name.
-#[derive(Drop)]
+#[derive(Clone, Copy)]
 pub(crate) enum Named {
     Unknown,
     Known(Role),

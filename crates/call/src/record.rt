@@ -12,14 +12,14 @@ use forms::item::*;
 use forms::profile::Handling;
 use forms::units::*;
 
-#[derive(Drop)]
+#[derive(Clone, Copy)]
 pub enum Presence {
     Absent,
     Present,
 }
 
 // The clock of a leg's charge: no charge is pending; it waits for the Answer; it runs.
-#[derive(Drop)]
+#[derive(Clone, Copy)]
 pub enum Clock {
     None,
     Waiting,
@@ -27,7 +27,7 @@ pub enum Clock {
 }
 
 // A leg's pending charge. The start is zero until the clock runs, and the period where no charge is pending.
-#[derive(Drop)]
+#[derive(Clone, Copy)]
 pub struct Charge {
     pub clock: Clock,
     pub period: Tenths,
@@ -35,14 +35,14 @@ pub struct Charge {
 }
 
 // A leg, as the rules speak of it: present or not, and its pending charge.
-#[derive(Drop)]
+#[derive(Clone, Copy)]
 pub struct LegState {
     pub presence: Presence,
     pub charge: Charge,
 }
 
 // The point of suspension: none, the trigger's, or a met point.
-#[derive(Drop)]
+#[derive(Clone, Copy)]
 pub enum Hold {
     None,
     Trigger,
@@ -53,7 +53,7 @@ pub enum Hold {
 pub const PLACES: usize = 16;
 
 // The called number; the places past the count are zero.
-#[derive(Drop)]
+#[derive(Clone, Copy)]
 pub struct Number {
     pub nature: u8,
     pub count: u8,
@@ -62,7 +62,7 @@ pub struct Number {
 
 // The fields stand by their size, the largest first and the small enums side by side: a byte between two fields that belongs to none is copied apart, with every copy of a record.
 // A leg lies in four fields: the rules take it out and put it in (`leg_at`, `with_leg`, `made`). The armings stand in the order of the roles. (The order of the last ten is among the fastest of some thirty that were measured.)
-#[derive(Drop)]
+#[derive(Clone, Copy)]
 pub struct Record {
     pub last: Tenths,
     pub period1: Tenths,

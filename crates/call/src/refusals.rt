@@ -17,7 +17,7 @@ use forms::item::Leg;
 use forms::units::Tenths;
 
 // The first refusal that applies, or none.
-#[derive(Drop)]
+#[derive(Clone, Copy)]
 pub(crate) enum Check {
     Pass,
     Fail(u8),

@@ -6,7 +6,7 @@ use crate::armings::Mode;
 use crate::record::Record;
 use crate::{armings, record};
 
-#[derive(Drop)]
+#[derive(Clone, Copy)]
 pub enum Relationship {
     None,
     Monitor,

@@ -5,7 +5,7 @@ ghost use Rattle.call.specs.Roles.{part_of, roles, place_of, is_role, stage_afte
 use crate::stages::*;
 
 // What an armable pair of leg and detection point stands for: an event detection point (EDP), by what it tells of the call.
-#[derive(Drop)]
+#[derive(Clone, Copy)]
 pub enum Role {
     MidCall,
     Disconnect1,
@@ -20,7 +20,7 @@ pub enum Role {
 }
 
 // A row of the table of roles: the stages at which the role can be met and from which it can still occur, and whether its leg becomes absent when it is met.
-#[derive(Drop)]
+#[derive(Clone, Copy)]
 pub struct Part {
     pub met: Span,
     pub occurs: Span,

@@ -16,7 +16,7 @@ use forms::units::*;
 use forms::{item, profile};
 
 // What a Setup's profile says of the call: whether its criteria hold, and the record's defaults.
-#[derive(Drop)]
+#[derive(Clone, Copy)]
 pub struct Opening {
     pub triggered: bool,
     pub timer: Seconds,
@@ -24,7 +24,7 @@ pub struct Opening {
 }
 
 // What comes before any call is looked at: a refusal, a Setup with what its profile says, or any other item.
-#[derive(Drop)]
+#[derive(Clone, Copy)]
 pub enum Early {
     Refused(u8),
     Setup(Opening),

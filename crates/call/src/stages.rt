@@ -2,7 +2,7 @@
 ghost use Rattle.std.specs.Prelude.{◌≡◌};
 ghost use Rattle.call.specs.Roles.{is_analysing, is_active, spans};
 
-#[derive(Drop)]
+#[derive(Clone, Copy)]
 pub enum Stage {
     Analysing,
     Alerting,
@@ -10,7 +10,7 @@ pub enum Stage {
 }
 
 // A span of stages.
-#[derive(Drop)]
+#[derive(Clone, Copy)]
 pub enum Span {
     Analysing,
     BeforeActive,

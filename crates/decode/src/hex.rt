@@ -4,14 +4,14 @@ ghost use Rattle.std.specs.Prelude.{◌<◌, length};
 use forms::bytes;
 
 // How many bytes there are, or that the text is of another form or too long.
-#[derive(Drop)]
+#[derive(Clone, Copy)]
 pub enum Hex {
     Bytes(usize),
     Wrong,
 }
 
 // What stands at a place of the text: a blank, a pair, or neither.
-#[derive(Drop)]
+#[derive(Clone, Copy)]
 pub enum Mark {
     Blank,
     Byte(u8),

@@ -10,14 +10,14 @@ use forms::bytes;
 use hex::Hex;
 use libc::STDIN_FILENO;
 
-#[derive(Drop)]
+#[derive(Clone, Copy)]
 pub enum Form {
     Item,
     Profile,
 }
 
 // What a line is; of a vector, its form and the place where its digits begin.
-#[derive(Drop)]
+#[derive(Clone, Copy)]
 pub enum Line {
     Copied,
     Vector(Form, usize),

@@ -4,7 +4,6 @@ pub mod ItemLaws
 pub mod WriteLaws
 pub mod ProfileLaws
 pub mod FeederLaws
-pub mod Walks
 pub mod ItemTheorems
 pub mod ProfileTheorems
 pub mod FeederTheorems

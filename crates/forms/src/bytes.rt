@@ -66,6 +66,7 @@ pub(crate) fn is_within(n: u8, low: u8, high: u8) -> bool
 }
 
 // Each byte is in low..high.
+#[tactic(auto, using(crate::proofs::ByteLaws::all_end, crate::proofs::ByteLaws::all_step, crate::proofs::ByteLaws::all_stop))]
 pub(crate) fn all_within(s: &[u8], low: u8, high: u8) -> bool
     ensures { result ≡ all (within low high) s.now }
 {
@@ -81,6 +82,7 @@ pub(crate) fn all_within(s: &[u8], low: u8, high: u8) -> bool
 }
 
 // Some byte is x.
+#[tactic(auto, using(crate::proofs::ByteLaws::contains_end, crate::proofs::ByteLaws::contains_stop, crate::proofs::ByteLaws::contains_step))]
 pub fn contains(t: &[u8], x: u8) -> bool
     ensures { result ≡ contains x t.now }
 {
@@ -95,6 +97,7 @@ pub fn contains(t: &[u8], x: u8) -> bool
 }
 
 // The bytes of `a` are the leading bytes of `d`.
+#[tactic(auto, using(crate::proofs::ByteLaws::leads_end, crate::proofs::ByteLaws::leads_short, crate::proofs::ByteLaws::leads_stop, crate::proofs::ByteLaws::leads_step))]
 pub fn leads(a: &[u8], d: &[u8]) -> bool
     ensures { result ≡ leads a.now d.now }
 {

@@ -3,7 +3,7 @@ ghost use Rattle.std.specs.Prelude.{◌≡◌, ◌<◌, length};
 ghost use Rattle.forms.specs.Comparison.{leading, not_leading, pairs_of, compare_on, comparison};
 
 // Whether the stored digits lead the dialled number, and how many digit pairs were compared to tell.
-#[derive(Drop)]
+#[derive(Clone, Copy)]
 pub struct Comparison {
     pub leads: bool,
     pub pairs: usize,
@@ -26,6 +26,7 @@ pub fn not_leading(pairs: usize) -> Comparison
 }
 
 // The pairs from the front, when one was compared and agreed: the last, which stands behind these.
+#[tactic(auto, using(crate::proofs::ComparisonLaws::front_stop, crate::proofs::ComparisonLaws::front_step, crate::proofs::ComparisonLaws::front_end))]
 fn compare_front(stored: &[u8], dialled: &[u8]) -> Comparison
     requires { length stored.now < length dialled.now }
     ensures { result ≡ compare_on 1 (pairs_of stored.now dialled.now) }
@@ -41,6 +42,7 @@ fn compare_front(stored: &[u8], dialled: &[u8]) -> Comparison
 }
 
 // No pair if the dialled number is shorter, else the last, and while all agree those from the front.
+#[tactic(auto, using(crate::proofs::ComparisonLaws::shorter, crate::proofs::ComparisonLaws::no_digits, crate::proofs::ComparisonLaws::last_differs, crate::proofs::ComparisonLaws::last_agrees))]
 pub fn compare(stored: &[u8], dialled: &[u8]) -> Comparison
     ensures { result ≡ comparison stored.now dialled.now }
 {

@@ -7,21 +7,21 @@ use crate::item::{Item, ReadItem};
 use crate::{bytes, framing, item};
 
 // The first `count` of the bytes. Those behind them mean nothing, and are zeros in what is handed out.
-#[derive(Drop)]
+#[derive(Clone, Copy)]
 pub struct Gathered {
     pub bytes: [u8; 65],
     pub count: usize,
 }
 
 // The bytes of the unfinished item, and whether a length field has stopped the feeder.
-#[derive(Drop)]
+#[derive(Clone, Copy)]
 pub struct Feeder {
     pub held: Gathered,
     pub stopped: bool,
 }
 
 // What a feeder takes of a chunk, before anything is read.
-#[derive(Drop)]
+#[derive(Clone, Copy)]
 pub enum Taken {
     // Refusal 15: nothing is taken.
     Closed,
@@ -34,7 +34,7 @@ pub enum Taken {
 }
 
 // What the chunk completes.
-#[derive(Drop)]
+#[derive(Clone, Copy)]
 pub enum Completed {
     // The item, and the place of its digits or entries in its bytes.
     Item(Item, usize),
@@ -45,7 +45,7 @@ pub enum Completed {
 }
 
 // The next feeder, how many bytes of the chunk were used, what was completed, and the bytes of the item that is handed out.
-#[derive(Drop)]
+#[derive(Clone, Copy)]
 pub struct Fed {
     pub feeder: Feeder,
     pub used: usize,
@@ -54,13 +54,14 @@ pub struct Fed {
 }
 
 // The next feeder, and how many bytes were dropped.
-#[derive(Drop)]
+#[derive(Clone, Copy)]
 pub struct Dropped {
     pub feeder: Feeder,
     pub count: usize,
 }
 
 // The bytes h and c, one behind the other.
+#[tactic(auto, using(crate::proofs::FeederLaws::pad_both))]
 fn join(h: &[u8], c: &[u8]) -> Gathered
     requires { length h.now + length c.now ≤ 65 }
     ensures { result ≡ gathered (h.now ++ c.now) }
@@ -146,6 +147,7 @@ fn take_on(f: Framing, h: &[u8]) -> Taken
 }
 
 // What the feeder takes of the chunk: `feed` without reading, for an owner who hands the item's bytes on to be read there.
+#[tactic(auto, unfolding(crate::specs::Feeder::take_of, crate::specs::Feeder::is_closed))]
 pub fn take(f: Feeder, chunk: &[u8]) -> Taken
     ensures { result ≡ take_of f chunk.now }
 {
@@ -193,6 +195,7 @@ fn complete(h: &[u8], c: &[u8], n: usize) -> Fed
 }
 
 // The next feeder and what is answered, where so much is taken of the chunk.
+#[tactic(auto, using(crate::proofs::FeederLaws::takes_as))]
 fn feed_on(t: Taken, f: Feeder, chunk: &[u8]) -> Fed
     requires { t ≡ take_of f chunk.now }
     ensures { result ≡ fed_as t f chunk.now }
@@ -209,6 +212,7 @@ fn feed_on(t: Taken, f: Feeder, chunk: &[u8]) -> Fed
 }
 
 // A chunk for the feeder: an item, refusal 1, the chunk used up, or refusal 15.
+#[tactic(auto, unfolding(crate::specs::Feeder::feed_of))]
 pub fn feed(f: Feeder, chunk: &[u8]) -> Fed
     ensures { result ≡ feed_of f chunk.now }
 {
@@ -216,6 +220,7 @@ pub fn feed(f: Feeder, chunk: &[u8]) -> Fed
 }
 
 // Drops the unfinished item.
+#[tactic(auto, unfolding(crate::specs::Feeder::reset_of, crate::specs::Feeder::is_closed))]
 pub fn reset(f: Feeder) -> Dropped
     ensures { result ≡ reset_of f }
 {

@@ -3,7 +3,7 @@ ghost use Rattle.std.specs.Prelude.{◌≡◌};
 ghost use Rattle.forms.specs.Framing.{framing_of, is_short, item_framing, profile_framing};
 
 // What a run of bytes begins with: a form that is not whole yet, a length that no form has, or a form of so many bytes.
-#[derive(Drop)]
+#[derive(Clone, Copy)]
 pub enum Framing {
     Short,
     Bad,
@@ -21,6 +21,7 @@ pub fn is_short(f: Framing) -> bool
 }
 
 // `total` bytes whose first two are the number n, where forms have low..high bytes.
+#[tactic(auto, unfolding(crate::specs::Framing::framing_of))]
 fn of_form(low: usize, high: usize, total: usize, n: usize) -> Framing
     ensures { result ≡ framing_of low high total n }
 {

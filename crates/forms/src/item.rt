@@ -8,21 +8,21 @@ ghost use Rattle.forms.specs.Item.{form_of, rest_in_range, setup_kind, leg_of, b
 use crate::units::{Seconds, Tenths};
 use crate::{bytes, fields};
 
-#[derive(Drop)]
+#[derive(Clone, Copy)]
 pub enum Leg {
     One,
     Two,
 }
 
 // The half of a call that a Setup opens, by its basic call state model: O-BCSM or T-BCSM.
-#[derive(Drop)]
+#[derive(Clone, Copy)]
 pub enum Bcsm {
     Originating,
     Terminating,
 }
 
 // The fields of a body. The digits or the entries that follow them stay in the lent bytes; a count says how many there are.
-#[derive(Drop)]
+#[derive(Clone, Copy)]
 pub enum Body {
     // Kind of call, nature, service, forwarded, digit count.
     Setup(Bcsm, u8, u8, bool, u8),
@@ -50,7 +50,7 @@ pub enum Body {
     Abort,
 }
 
-#[derive(Drop)]
+#[derive(Clone, Copy)]
 pub struct Item {
     pub call: u32,
     pub time: Tenths,
@@ -58,14 +58,14 @@ pub struct Item {
 }
 
 // The item and the place where its digits or entries begin, or the refusal.
-#[derive(Drop)]
+#[derive(Clone, Copy)]
 pub enum ReadItem {
     Item(Item, usize),
     Refused(u8),
 }
 
 // An entry of a Request report, of any values.
-#[derive(Drop)]
+#[derive(Clone, Copy)]
 pub struct Entry {
     pub point: u8,
     pub leg: u8,
@@ -74,14 +74,14 @@ pub struct Entry {
 }
 
 // The entry and the place after it, or the end.
-#[derive(Drop)]
+#[derive(Clone, Copy)]
 pub enum ReadEntry {
     Entry(Entry, usize),
     End,
 }
 
 // What follows the fields.
-#[derive(Drop)]
+#[derive(Clone, Copy)]
 pub(crate) enum Rest {
     Nothing,
     Digits(u8),
@@ -89,7 +89,7 @@ pub(crate) enum Rest {
 }
 
 // A row of the table of kinds: the kind, the fields' bytes (the first `len`), whether the fields are in range, and what follows.
-#[derive(Drop)]
+#[derive(Clone, Copy)]
 pub(crate) struct Fixed {
     pub kind: u8,
     pub len: u8,
@@ -209,6 +209,7 @@ pub(crate) fn fixed_of(body: Body) -> Fixed
 
 // The body of the kind n: b0 to b3 are its first bytes, `leg` is the leg that b0 stands for, `p` the number from b1 on.
 // A number that no kind has gives an Abort, whose row has the kind 26: the bytes are not it.
+#[tactic(auto, unfolding(crate::specs::Item::body_from))]
 fn body_from(n: u8, b0: u8, b1: u8, b2: u8, b3: u8, leg: Leg, p: u64) -> Body
     ensures { result ≡ body_from n b0 b1 b2 b3 leg p }
 {
@@ -235,6 +236,7 @@ fn body_from(n: u8, b0: u8, b1: u8, b2: u8, b3: u8, leg: Leg, p: u64) -> Body
 }
 
 // The body of the kind n whose bytes are b, whatever they are.
+#[tactic(auto, unfolding(crate::specs::Item::body_of))]
 fn body_of(n: u8, b: &[u8]) -> Body
     ensures { result ≡ body_of n b.now }
 {
@@ -259,6 +261,7 @@ fn call_in(s: &[u8]) -> u32
 }
 
 // The values at their places, whatever the bytes are.
+#[tactic(auto, unfolding(crate::specs::Item::item_of))]
 fn item_of(s: &[u8]) -> Item
     ensures { result ≡ item_of s.now }
 {
@@ -298,6 +301,7 @@ pub(crate) fn item_in_range(item: Item, f: Fixed, t: &[u8]) -> bool
 }
 
 // The same for an item alone: every field is in its range, and `t` is what follows.
+#[tactic(auto, unfolding(crate::specs::Item::item_in_range))]
 pub fn in_range(item: Item, t: &[u8]) -> bool
     ensures { result ≡ item_in_range item t.now }
 {
@@ -306,6 +310,7 @@ pub fn in_range(item: Item, t: &[u8]) -> bool
 }
 
 // The bytes are the item that was read from them, f its row: only what reading does not settle by itself is tested.
+#[tactic(auto, using(crate::proofs::ItemLaws::is_item_lem))]
 fn is_item(item: Item, f: Fixed, s: &[u8]) -> bool
     requires { ((item ≡ item_of s.now) × (f ≡ fixed_of (form_of item.body))) × (14 ≤ length s.now) }
     ensures { result ≡ is_item item s.now }
@@ -319,6 +324,7 @@ fn is_item(item: Item, f: Fixed, s: &[u8]) -> bool
 }
 
 // The item that the bytes are, or refusal 1.
+#[tactic(auto, using(crate::proofs::ItemLaws::rest_at_lem, crate::proofs::ItemLaws::read_short), unfolding(crate::specs::Item::read_item))]
 pub fn read_item(s: &[u8]) -> ReadItem
     ensures { result ≡ read_item s.now }
 {
@@ -336,6 +342,7 @@ pub fn read_item(s: &[u8]) -> ReadItem
 }
 
 // The item that the bytes from place `a` on are, and the place of its digits or entries.
+#[tactic(auto, using(crate::proofs::ItemLaws::place_small, crate::proofs::ItemLaws::read_short), unfolding(crate::specs::Item::read_item_at))]
 pub fn read_item_at(s: &[u8], a: usize) -> ReadItem
     ensures { result ≡ read_item_at s.now a }
 {
@@ -349,6 +356,7 @@ pub fn read_item_at(s: &[u8], a: usize) -> ReadItem
     }
 }
 
+#[tactic(auto, unfolding(crate::specs::Item::entry_of))]
 fn entry_of(e: &[u8]) -> Entry
     ensures { result ≡ entry_of e.now }
 {
@@ -368,6 +376,7 @@ pub fn nth_entry(t: &[u8], i: u8) -> Entry
 }
 
 // The entry at a place, and the place after it.
+#[tactic(auto, unfolding(crate::specs::Item::read_entry))]
 pub fn read_entry(s: &[u8], a: usize) -> ReadEntry
     ensures { result ≡ read_entry s.now a }
 {

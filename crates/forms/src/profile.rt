@@ -6,13 +6,13 @@ ghost use Rattle.forms.specs.Profile.{is_release, handling_of, criterion_of, cri
 use crate::units::Seconds;
 use crate::{bytes, comparison, fields};
 
-#[derive(Drop)]
+#[derive(Clone, Copy)]
 pub enum Handling {
     Continue,
     Release,
 }
 
-#[derive(Drop)]
+#[derive(Clone, Copy)]
 pub enum Criterion {
     Absent,
     Enabling,
@@ -20,7 +20,7 @@ pub enum Criterion {
 }
 
 // A profile in its lent bytes: the values of its single fields, and where the lists of lengths and of services stand.
-#[derive(Drop)]
+#[derive(Clone, Copy)]
 pub struct ProfileView {
     pub handling: Handling,
     pub timer: Seconds,
@@ -30,14 +30,14 @@ pub struct ProfileView {
     pub forwarding: Criterion,
 }
 
-#[derive(Drop)]
+#[derive(Clone, Copy)]
 pub enum ReadProfile {
     Profile(ProfileView),
     Refused(u8),
 }
 
 // What a walk over the stored numbers finds.
-#[derive(Drop)]
+#[derive(Clone, Copy)]
 pub(crate) struct Numbers {
     pub in_range: bool,
     pub end: usize,
@@ -120,6 +120,7 @@ fn number_in_range(s: &[u8], q: usize) -> bool
 }
 
 // The stored numbers: whether all are in range, and where they end.
+#[tactic(auto, using(crate::proofs::ProfileLaws::in_range_next, crate::proofs::ProfileLaws::end_next, crate::proofs::ProfileLaws::numbers_none, crate::proofs::ProfileLaws::end_none))]
 fn walk_numbers(s: &[u8]) -> Numbers
     ensures { ((result.in_range ≡ all_in_range (number_fields (numbers_at (get_or s.now 6 0) s.now 7))) × (result.end ≡ numbers_end (get_or s.now 6 0) s.now 7)) × (result.end ≤ 65542) }
 {
@@ -135,6 +136,7 @@ fn walk_numbers(s: &[u8]) -> Numbers
 }
 
 // The values at their places, the numbers ending at l.
+#[tactic(auto, unfolding(crate::specs::Profile::view_at))]
 fn view_at(s: &[u8], l: usize) -> ProfileView
     requires { l ≤ 65542 }
     ensures { (result ≡ view_at s.now l) × ((result.lengths ≤ 66000) × (result.services ≤ 66000)) }
@@ -155,6 +157,7 @@ fn view_at(s: &[u8], l: usize) -> ProfileView
 
 // The bytes are the profile whose view p was read from them: length and version, the three choices and the end are as written, and every field is in range.
 // `numbers` says whether the stored numbers are: the walk over them has found out.
+#[tactic(auto, using(crate::proofs::ProfileLaws::profile_same, crate::proofs::ProfileLaws::profile_in_range_lem), unfolding(crate::specs::Profile::is_profile))]
 fn is_profile(s: &[u8], p: ProfileView, numbers: bool) -> bool
     requires { ((p ≡ view_of s.now) × (numbers ≡ all_in_range (number_fields (numbers_at (get_or s.now 6 0) s.now 7)))) × (p.services ≤ 66000) }
     ensures { result ≡ is_profile (profile_of s.now) s.now }
@@ -180,6 +183,7 @@ fn is_profile(s: &[u8], p: ProfileView, numbers: bool) -> bool
 }
 
 // The profile that the bytes are, or refusal 2.
+#[tactic(auto, unfolding(crate::specs::Profile::read_profile))]
 pub fn read_profile(s: &[u8]) -> ReadProfile
     ensures { result ≡ read_profile s.now }
 {
@@ -193,6 +197,7 @@ pub fn read_profile(s: &[u8]) -> ReadProfile
 }
 
 // The stored number at place q matches the dialled one.
+#[tactic(auto, using(crate::proofs::ComparisonLaws::as_before))]
 fn match_at(s: &[u8], q: usize, nature: u8, dialled: &[u8]) -> bool
     requires { q ≤ 70000 }
     ensures { result ≡ matches (number_at s.now q) nature dialled.now }
@@ -204,6 +209,7 @@ fn match_at(s: &[u8], q: usize, nature: u8, dialled: &[u8]) -> bool
 }
 
 // Some stored number of the profile matches the dialled one.
+#[tactic(auto, using(crate::proofs::ProfileLaws::numbers_next, crate::proofs::ProfileLaws::numbers_none), unfolding(crate::specs::Profile::some_matches, crate::specs::Profile::profile_of))]
 pub fn some_match(s: &[u8], nature: u8, dialled: &[u8]) -> bool
     ensures { result ≡ some_matches (profile_of s.now).numbers nature dialled.now }
 {

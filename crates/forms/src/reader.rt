@@ -6,7 +6,7 @@ ghost use Rattle.forms.specs.Item.{read_item_at, read_entry};
 use crate::bytes;
 use crate::item::{ReadEntry, ReadItem, read_entry, read_item_at};
 
-#[derive(Drop)]
+#[derive(Clone, Copy)]
 pub struct Reader<'a> {
     pub src: &'a [u8],
     pub at: usize,

@@ -3,20 +3,20 @@ ghost use Rattle.std.specs.Prelude.{◌≡◌};
 ghost use Rattle.forms.specs.Units.{is_clock_reading, is_period, period_of, is_timer, timer_of, is_default_timer, tenths_of};
 
 // Clock readings, charged periods and elapsed times.
-#[derive(Drop)]
+#[derive(Clone, Copy)]
 pub struct Tenths(pub u64);
 
 // No-answer timers.
-#[derive(Drop)]
+#[derive(Clone, Copy)]
 pub struct Seconds(pub u32);
 
-#[derive(Drop)]
+#[derive(Clone, Copy)]
 pub enum Period {
     Of(Tenths),
     Refused(u8),
 }
 
-#[derive(Drop)]
+#[derive(Clone, Copy)]
 pub enum Timer {
     Of(Seconds),
     Refused(u8),

@@ -7,7 +7,7 @@ ghost use Rattle.forms.specs.Write.{written, after};
 use crate::item::Item;
 use crate::{bytes, item};
 
-#[derive(Drop)]
+#[derive(Clone, Copy)]
 pub enum Written {
     Length(usize),
     Refused(u8),
@@ -36,6 +36,7 @@ fn head_of(n: usize, kind: u8, call: u32, time: u64) -> [u8; 14]
 }
 
 // Stores three parts, one after the other, at the start of `d`.
+#[tactic(auto, using(crate::proofs::WriteLaws::parts))]
 fn put_parts(d: &mut [u8], a: &[u8], b: &[u8], t: &[u8])
     requires { length a.now + length b.now + length t.now ≤ length d.old }
     ensures { d.new ≡ sets d.old 0 (a.now ++ b.now ++ t.now) }
@@ -46,6 +47,7 @@ fn put_parts(d: &mut [u8], a: &[u8], b: &[u8], t: &[u8])
 }
 
 // Stores the item's n bytes at the start of `d`; f is the item's row of the table of kinds.
+#[tactic(auto, using(crate::proofs::ItemLaws::fields_back, crate::proofs::ItemLaws::item_parts), unfolding(crate::specs::Item::rest_at))]
 fn put_item(d: &mut [u8], item: Item, f: item::Fixed, n: usize, t: &[u8])
     requires { ((f ≡ fixed_of (form_of item.body)) × (n ≡ rest_at item.body + length t.now)) × (n ≤ length d.old) }
     ensures { d.new ≡ sets d.old 0 (item_bytes item t.now) }
@@ -57,6 +59,7 @@ fn put_item(d: &mut [u8], item: Item, f: item::Fixed, n: usize, t: &[u8])
 }
 
 // Writes the item, whose digits or entries are `t`, at the start of `d`. Refusal 1 where a value is out of range or `d` too short.
+#[tactic(auto, using(crate::proofs::ItemLaws::rest_at_lem, crate::proofs::ItemLaws::item_in_range_lem, crate::proofs::WriteLaws::with_room, crate::proofs::WriteLaws::no_room, crate::proofs::WriteLaws::out_of_range))]
 pub fn write_item(item: Item, t: &[u8], d: &mut [u8]) -> Written
     ensures { (result ≡ written item t.now d.old) × (d.new ≡ after item t.now d.old) }
 {

@@ -16,7 +16,7 @@ pub const HALF: usize = 32768;
 const BASE: usize = 256;
 
 // Where the bytes that are left begin and end in the buffer, what begins there, and whether a read for it failed.
-#[derive(Drop)]
+#[derive(Clone, Copy)]
 pub struct Place {
     pub at: usize,
     pub end: usize,
@@ -25,7 +25,7 @@ pub struct Place {
 }
 
 // Where the bytes of a read end, and whether it failed.
-#[derive(Drop)]
+#[derive(Clone, Copy)]
 pub struct Arrived {
     pub end: usize,
     pub failed: bool,
@@ -126,7 +126,7 @@ fn goes_on(f: Feeder, c: &[u8]) -> bool
 }
 
 // A feeder, where the bytes end that were read last, and whether that read failed.
-#[derive(Drop)]
+#[derive(Clone, Copy)]
 pub struct Reading {
     pub feeder: Feeder,
     pub end: usize,

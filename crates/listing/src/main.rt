@@ -14,7 +14,7 @@ use table::{feed, line, slot};
 
 // One buffer serves both ways: the input stands in its first half, the output in its second. The profile stays at the front of the input, in `keep` bytes. The item to be answered, where there is one more, has `size` bytes at place `at`, and
 // `number` is its number. The input that was read ends at `end`; the output is filled to `filled`. `refusal` ends the listing, unless it is 0.
-#[derive(Drop)]
+#[derive(Clone, Copy)]
 pub struct State {
     pub keep: usize,
     pub at: usize,

@@ -13,7 +13,7 @@ use forms::{bytes, item};
 pub const LONGEST: usize = 128;
 
 // Where a line was stored: the next place, behind it. Where there is no room for the longest line nothing is stored.
-#[derive(Drop)]
+#[derive(Clone, Copy)]
 pub enum Printed {
     NoRoom,
     Next(usize),

@@ -7,7 +7,7 @@ ghost use Rattle.table.specs.Lookup.{locate_of, slot_of, is_of};
 use crate::slot::*;
 
 // The call's slot; else the lowest free one; else none.
-#[derive(Drop)]
+#[derive(Clone, Copy)]
 pub enum Spot {
     Nowhere,
     Free(usize),

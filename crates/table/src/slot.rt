@@ -7,13 +7,13 @@ ghost use Rattle.table.specs.Feed.{is_sound_table};
 use call::record;
 use call::record::Record;
 
-#[derive(Drop)]
+#[derive(Clone, Copy)]
 pub enum Owner {
     Free,
     Call(u32),
 }
 
-#[derive(Drop)]
+#[derive(Clone, Copy)]
 pub struct Slot {
     pub owner: Owner,
     pub body: Record,
