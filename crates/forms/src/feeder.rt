@@ -61,7 +61,6 @@ pub struct Dropped {
 }
 
 // The bytes h and c, one behind the other.
-#[tactic(auto, using(crate::proofs::FeederLaws::pad_both))]
 fn join(h: &[u8], c: &[u8]) -> Gathered
     requires { length h.now + length c.now ≤ 65 }
     ensures { result ≡ gathered (h.now ++ c.now) }
@@ -195,7 +194,6 @@ fn complete(h: &[u8], c: &[u8], n: usize) -> Fed
 }
 
 // The next feeder and what is answered, where so much is taken of the chunk.
-#[tactic(auto, using(crate::proofs::FeederLaws::takes_as))]
 fn feed_on(t: Taken, f: Feeder, chunk: &[u8]) -> Fed
     requires { t ≡ take_of f chunk.now }
     ensures { result ≡ fed_as t f chunk.now }

@@ -342,7 +342,7 @@ pub fn read_item(s: &[u8]) -> ReadItem
 }
 
 // The item that the bytes from place `a` on are, and the place of its digits or entries.
-#[tactic(auto, using(crate::proofs::ItemLaws::place_small, crate::proofs::ItemLaws::read_short), unfolding(crate::specs::Item::read_item_at))]
+#[tactic(auto, using(crate::proofs::ItemLaws::place_small), unfolding(crate::specs::Item::read_item_at))]
 pub fn read_item_at(s: &[u8], a: usize) -> ReadItem
     ensures { result ≡ read_item_at s.now a }
 {

@@ -47,7 +47,7 @@ fn put_parts(d: &mut [u8], a: &[u8], b: &[u8], t: &[u8])
 }
 
 // Stores the item's n bytes at the start of `d`; f is the item's row of the table of kinds.
-#[tactic(auto, using(crate::proofs::ItemLaws::fields_back, crate::proofs::ItemLaws::item_parts), unfolding(crate::specs::Item::rest_at))]
+#[tactic(auto, using(crate::proofs::ItemLaws::fields_back), unfolding(crate::specs::Item::rest_at))]
 fn put_item(d: &mut [u8], item: Item, f: item::Fixed, n: usize, t: &[u8])
     requires { ((f ≡ fixed_of (form_of item.body)) × (n ≡ rest_at item.body + length t.now)) × (n ≤ length d.old) }
     ensures { d.new ≡ sets d.old 0 (item_bytes item t.now) }
@@ -59,7 +59,7 @@ fn put_item(d: &mut [u8], item: Item, f: item::Fixed, n: usize, t: &[u8])
 }
 
 // Writes the item, whose digits or entries are `t`, at the start of `d`. Refusal 1 where a value is out of range or `d` too short.
-#[tactic(auto, using(crate::proofs::ItemLaws::rest_at_lem, crate::proofs::ItemLaws::item_in_range_lem, crate::proofs::WriteLaws::with_room, crate::proofs::WriteLaws::no_room, crate::proofs::WriteLaws::out_of_range))]
+#[tactic(auto, using(crate::proofs::ItemLaws::rest_at_lem))]
 pub fn write_item(item: Item, t: &[u8], d: &mut [u8]) -> Written
     ensures { (result ≡ written item t.now d.old) × (d.new ≡ after item t.now d.old) }
 {

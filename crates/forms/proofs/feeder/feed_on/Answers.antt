@@ -1,11 +1,11 @@
-use Rattle.std.proofs.Common.{rules, ◌≡◌, ◌++◌, [], ◌+◌, ◌≤◌, length, get_or, ℕ, ◌-◌, ◌*◌, ◌<◌, ◌/◌, ◌%◌, Bool, true, false, nat_eq, nat_lt, List, ◌∷◌, slice_set, bit_and, bit_or, Fits, w8, w32, w64, Bor, MutBor}
-use Rattle.forms.specs.Feeder.{gathered, holding, new_feeder, stopped_feeder, begins, closed_as, taken_as, take_of, without_item, whole_fed, fed_as, feed_of, reset_of}
+-- What is held and what is taken of the chunk fit in an item.
+use Rattle.forms.specs.declared.feeder.Taken.TheVariants as T
+use Rattle.forms.proofs.FeederLaws.{takes_as}
 use Rattle.forms.proofs.feeder.feed_on.Goals as goal
 
--- src/feeder.rt:209:48
 pub join-requires : goal.join-requires
-join-requires c = ?
+join-requires c = rw c.part_of-h.ensures (takes_as c.args.f c.args.chunk.now c.requires T.Unfinished c.in-Unfinished.is)
 
--- src/feeder.rt:210:28
 pub complete-requires : goal.complete-requires
-complete-requires c = ?
+complete-requires c =
+    rw (c.part_of.ensures, c.part_of-h.ensures) (takes_as c.args.f c.args.chunk.now c.requires (T.Whole _) c.in-Whole.is).2

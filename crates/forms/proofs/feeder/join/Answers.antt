@@ -1,7 +1,9 @@
-use Rattle.std.proofs.Common.{rules, ◌≡◌, ◌++◌, [], ◌+◌, ◌≤◌, length, get_or, ℕ, ◌-◌, ◌*◌, ◌<◌, ◌/◌, ◌%◌, Bool, true, false, nat_eq, nat_lt, List, ◌∷◌, slice_set, bit_and, bit_or, Fits, w8, w32, w64, Bor, MutBor}
-use Rattle.forms.specs.Feeder.{gathered, holding, new_feeder, stopped_feeder, begins, closed_as, taken_as, take_of, without_item, whole_fed, fed_as, feed_of, reset_of}
+use Rattle.std.proofs.Common.{length-append}
+use Rattle.forms.proofs.FeederLaws.{pad_both}
 use Rattle.forms.proofs.feeder.join.Goals as goal
 
--- src/feeder.rt:64:1
 pub returns : goal.returns
-returns c = ?
+returns c =
+    let h = c.args.h.now in
+    let s = c.args.c.now in
+    rw (c.copy_in-2.ensures, c.copy_in.ensures, pad_both 65 h s c.requires, length-append h s)

@@ -1,17 +1,23 @@
-use Rattle.std.proofs.Common.{rules, ◌≡◌, ◌++◌, ◌+◌, ◌≤◌, length, ℕ, ◌-◌, ◌*◌, ◌<◌, ◌/◌, ◌%◌, Bool, true, false, nat_eq, nat_lt, List, [], ◌∷◌, slice_index_or, slice_set, bit_and, bit_or, Fits, w8, w32, w64, Bor, MutBor}
-use Rattle.std.proofs.lemmas.List.Edits.{sets}
-use Rattle.forms.specs.Item.{form_of, item_bytes, rest_at, head_of, fixed_of}
-use Rattle.forms.specs.Write.{written, after}
+use Rattle.std.proofs.Common.{sym, ◌∙◌}
+use Rattle.forms.proofs.ItemLaws.{rest_at_lem, item_in_range_lem}
+use Rattle.forms.proofs.WriteLaws.{with_room, no_room, out_of_range}
 use Rattle.forms.proofs.write.write_item.Goals as goal
 
--- src/write.rt:62:1
 pub returns-then-n-d : goal.returns-then-n-d
-returns-then-n-d c = ?
+returns-then-n-d c =
+    let a = c.args in
+    let f = c.fixed_of-f.ensures in
+    let n = sym c.rest_at.ensures.0 in
+    let y = with_room a.item a.t.now a.d.now (item_in_range_lem a.item _ f _ ∙ sym c.item_in_range.ensures ∙ c.if-item_in_range.true) (rw (rest_at_lem a.item _ f, n) c.if-n-d.true) in
+    (rw (rest_at_lem a.item _ f, n) at y.0, rw c.put_item.ensures y.1)
 
--- src/write.rt:62:1
 pub returns-else-n-d : goal.returns-else-n-d
-returns-else-n-d c = ?
+returns-else-n-d c =
+    let a = c.args in
+    let f = c.fixed_of-f.ensures in
+    no_room a.item a.t.now a.d.now (item_in_range_lem a.item _ f _ ∙ sym c.item_in_range.ensures ∙ c.if-item_in_range.true) (rw (rest_at_lem a.item _ f, sym c.rest_at.ensures.0) c.if-n-d.false)
 
--- src/write.rt:62:1
 pub returns-else-item_in_range : goal.returns-else-item_in_range
-returns-else-item_in_range c = ?
+returns-else-item_in_range c =
+    let a = c.args in
+    out_of_range a.item a.t.now a.d.now (item_in_range_lem a.item _ c.fixed_of-f.ensures _ ∙ sym c.item_in_range.ensures ∙ c.if-item_in_range.false)
