@@ -1,5 +1,7 @@
 // One call's behaviour, by value: its record, and the answer and next record of every item (document 01, Triggering to A call by itself).
 // No module uses one that stands later in this row: stages, trigger, roles, armings, points, record, charging, range, relationship, answers, events, kind, operations, request, refusals, setup, step.
+#![tactic(auto)]
+
 pub mod answers;
 pub mod armings;
 pub mod charging;
