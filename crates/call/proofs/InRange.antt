@@ -31,7 +31,7 @@ use Rattle.forms.specs.Profile.{is_release}
 use Rattle.call.specs.Roles.{roles, place_of, is_role, is_among, every, is_active}
 use Rattle.call.specs.Armings.{is_mode, mode_of, unarmed, no_armings, mode_at, disarmed}
 use Rattle.call.specs.Points.{set_of, point_in, is_in, leaves, disarms, is_point_set}
-use Rattle.call.specs.Record.{places, leg, charge, no_charge, waiting, running, is_present, number_of, leg_at, timed, staged, with_legs, with_leg, armed_as, numbered, is_held, is_trigger}
+use Rattle.call.specs.Record.{places, leg, no_charge, waiting, running, is_present, number_of, leg_at, timed, staged, with_legs, with_leg, armed_as, numbered, is_held, is_trigger}
 use Rattle.call.specs.Charging.{answered_as, answered, granted}
 use Rattle.call.specs.Answers.{remains, first_of}
 use Rattle.call.specs.Request.{entries_of, named, is_mode_for, is_timer_for, is_good, seen_after, are_good, none_seen, kept_after, armed_by, armed_with}

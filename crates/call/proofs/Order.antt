@@ -2,7 +2,7 @@
 use Prim.Native.Nat.{ℕ, ◌≤◌}
 use mathlib.Core.Path.{◌≡◌, refl, sym, subst, ap, ◌∙◌}
 use mathlib.Core.Logic.{◌⊎◌, inl, inr}
-use mathlib.Core.Bool.{Bool, true, false, not, cond, ◌&&◌, ◌||◌, false≢true}
+use mathlib.Core.Bool.{Bool, true, false, not, ◌&&◌, ◌||◌, false≢true}
 use mathlib.Core.List.Memᴰ.{head as In·head}
 use mathlib.Core.List.Memᴰ.{tail as In·tail}
 use mathlib.Core.List.{List, [], ◌∷◌, Memᴰ as In}
@@ -25,7 +25,7 @@ use Rattle.call.specs.Armings.{mode_of}
 use Rattle.call.specs.Points.{set_of, point_in, is_point_set}
 use Rattle.call.specs.Record.{timed, armed_as}
 use Rattle.call.specs.Answers.{Row, is_accepted, first_of, guarded}
-use Rattle.call.specs.Request.{entries_of, named, is_mode_for, is_good, seen_after, are_good, none_seen, kept_after, armed_by, armed_with, request_report}
+use Rattle.call.specs.Request.{named, is_mode_for, is_good, seen_after, are_good, none_seen, kept_after, armed_by, armed_with, request_report}
 use Rattle.call.specs.Refusals.{row1_time, rows_of}
 use Rattle.call.specs.Step.{respond_in}
 use Rattle.call.specs.Order.{Request, entries, Apart, Disjoint, asked, in_turn, BothAccepted}

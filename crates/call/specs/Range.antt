@@ -3,7 +3,7 @@ use Rattle.std.specs.Prelude.{ℕ, zero, suc, Bool, true, not, ◌&&◌, ◌||�
 use Rattle.forms.specs.Fields.{nature, digit_count, is_digit}
 use Rattle.forms.specs.Units.{is_clock_reading, is_period, is_timer, is_default_timer}
 use Rattle.forms.specs.Profile.{is_release}
-use Rattle.call.specs.Types.{Tenths, PointSet, Role, Clock, Charge, LegState, Arming, Hold, Number, Record}
+use Rattle.call.specs.Types.{Tenths, PointSet, Clock, Charge, LegState, Arming, Hold, Number, Record}
 use Rattle.call.specs.declared.roles.Role.TheVariants.{Moved}
 use Rattle.call.specs.declared.record.Clock.TheVariants as clock
 use Rattle.forms.specs.declared.item.Leg.TheVariants.{One, Two}

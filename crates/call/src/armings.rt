@@ -77,6 +77,7 @@ fn stronger(m: Mode, n: Mode) -> Mode
 }
 
 // The strongest mode that is armed, which tells the relationship, in one pass. (LLVM makes a vector's maximum of it, as the modes stand by their strength.)
+#[tactic(auto, using(crate::proofs::Laws::strongest_step, crate::proofs::Laws::strongest_end))]
 pub(crate) fn strongest(a: [Arming; 10]) -> Mode
     ensures { result ≡ strongest mode.None a }
 {
@@ -93,6 +94,7 @@ pub(crate) fn strongest(a: [Arming; 10]) -> Mode
 }
 
 // No point is armed.
+#[tactic(auto, using(crate::proofs::Laws::nothing_by))]
 pub(crate) fn nothing_armed(a: [Arming; 10]) -> bool
     ensures { result ≡ nothing_armed a }
 {

@@ -163,6 +163,7 @@ fn by_mode(bcsm: Bcsm, p: Role, m: Mode, earlier: Hold) -> ByMode
 }
 
 // The role is met at t, its leg and stage allowing it.
+#[tactic(auto, unfolding(crate::specs::Events::met))]
 pub(crate) fn meet(r: Record, p: Role, t: Tenths) -> Stepped
     ensures { result ≡ met (set_of r.bcsm) r p t }
 {

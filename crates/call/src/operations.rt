@@ -43,6 +43,7 @@ pub(crate) fn route(r: Record, t: Tenths) -> Stepped
 }
 
 // Continue, from a hold.
+#[tactic(auto, unfolding(crate::specs::Operations::continued))]
 pub(crate) fn continue_on(r: Record, t: Tenths) -> Stepped
     requires { t.0 < clock_end }
     ensures { result ≡ continued (set_of r.bcsm) r t }
@@ -130,6 +131,7 @@ fn drop_all(r: Record) -> Record
     record::made(r, stage, one, two, hold, last, armings, kept, number)
 }
 
+#[tactic(auto, unfolding(crate::specs::Operations::aborted))]
 pub(crate) fn abort(r: Record, t: Tenths) -> Stepped
     requires { t.0 < clock_end }
     ensures { result ≡ aborted (set_of r.bcsm) r t }

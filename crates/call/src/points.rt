@@ -104,6 +104,7 @@ fn is_pair(q: Point, leg: u8, number: u8) -> bool
 }
 
 // The role that has the numbers of a leg and a point.
+#[tactic(auto, using(crate::proofs::PointLaws::first_here, crate::proofs::PointLaws::first_after, crate::proofs::PointLaws::first_none))]
 pub(crate) fn role_in(bcsm: Bcsm, leg: u8, number: u8) -> Named
     ensures { result ≡ role_in (set_of bcsm) leg number }
 {
@@ -140,6 +141,7 @@ fn unarmed_if(off: bool, x: Arming) -> Arming
 }
 
 // The points of a leg are disarmed.
+#[tactic(auto, using(crate::proofs::PointLaws::roles_end))]
 fn without_leg(bcsm: Bcsm, leg: Leg, a: [Arming; 10]) -> [Arming; 10]
     ensures { result ≡ disarmed (on_leg (set_of bcsm) leg) a }
 {

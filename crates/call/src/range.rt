@@ -57,6 +57,7 @@ fn is_moved_in_range(a: [Arming; 10]) -> bool
 }
 
 // The hold and the armings. (How this is written decides what the check of a slot costs: DECISIONS. An arming that is read by itself at another place breaks up the ten, which the check of a free slot reads at once.)
+#[tactic(auto, using(crate::proofs::PointLaws::sets_fit, crate::proofs::PointLaws::by_failure))]
 fn points_in_range(bcsm: Bcsm, h: Hold, a: [Arming; 10]) -> bool
     ensures { result ≡ (hold_in_range (set_of bcsm) h && armings_in_range (set_of bcsm) a) }
 {
@@ -74,6 +75,7 @@ fn place_in_range(inside: bool, d: u8) -> bool
     d <= limit
 }
 
+#[tactic(auto, using(crate::proofs::Laws::places_step, crate::proofs::Laws::places_end))]
 fn places_in_range(count: u8, digits: [u8; PLACES]) -> bool
     ensures { result ≡ places_in_range count digits }
 {
@@ -88,6 +90,7 @@ fn places_in_range(count: u8, digits: [u8; PLACES]) -> bool
     ok
 }
 
+#[tactic(auto, unfolding(crate::specs::Range::number_in_range))]
 fn number_in_range(n: Number) -> bool
     ensures { result ≡ number_in_range n }
 {
@@ -99,6 +102,7 @@ fn number_in_range(n: Number) -> bool
         & places_in_range(count, digits)
 }
 
+#[tactic(auto, unfolding(crate::specs::Range::in_range_of))]
 pub fn record_in_range(r: Record) -> bool
     ensures { result ≡ record_in_range r }
 {
@@ -135,6 +139,7 @@ fn is_unused(l: LegState) -> bool
 }
 
 // No place is used. The empty ones are counted: measured, other loops take twice the time.
+#[tactic(auto, using(crate::proofs::Laws::places_end, crate::proofs::Laws::empty_step, crate::proofs::Laws::used_step))]
 fn no_places(digits: [u8; PLACES]) -> bool
     ensures { result ≡ places_in_range 0 digits }
 {
@@ -160,6 +165,7 @@ fn is_no_number(n: Number) -> bool
 }
 
 // All but the armings and the called number.
+#[tactic(auto, unfolding(crate::specs::Range::are_fields_blank))]
 fn are_fields_blank(r: Record) -> bool
     ensures { result ≡ are_fields_blank r }
 {
@@ -184,6 +190,7 @@ fn are_fields_blank(r: Record) -> bool
 }
 
 // Every field zero or none, as in a free record. A record in use mostly leaves at the first test.
+#[tactic(auto, unfolding(crate::specs::Range::is_blank))]
 pub fn is_blank(r: Record) -> bool
     ensures { result ≡ is_blank r }
 {

@@ -109,6 +109,7 @@ fn connect_refusal(r: Record) -> Check
 }
 
 // Refusals 11 and 12: every entry is tested for 11 before any for 12.
+#[tactic(auto, using(crate::proofs::Laws::good_step, crate::proofs::Laws::good_stop, crate::proofs::Laws::good_end, crate::proofs::Laws::possible_step, crate::proofs::Laws::possible_end))]
 fn entries_refusal(r: Record, n: u8, t: &[u8]) -> Check
     ensures { result ≡ first_of (row11 (set_of r.bcsm) (entries_of n t.now) ∷ row12 (are_possible (set_of r.bcsm) r (entries_of n t.now)) ∷ []) }
 {

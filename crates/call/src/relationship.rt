@@ -13,6 +13,7 @@ pub enum Relationship {
     Control,
 }
 
+#[tactic(auto, using(crate::proofs::Laws::relationship_by))]
 pub(crate) fn relationship_of(r: Record) -> Relationship
     ensures { result ≡ relationship_of r }
 {

@@ -98,6 +98,7 @@ fn kept_for(x: Named, timer: Seconds, kept: Seconds) -> Seconds
 }
 
 // All entries, one after the other. Each stores where the record lies, as a copy of it each turn takes time.
+#[tactic(auto, using(crate::proofs::Laws::arm_step, crate::proofs::Laws::arm_end))]
 pub(crate) fn arm_all(r: Record, n: u8, t: &[u8]) -> Record
     ensures { result ≡ armed_with (set_of r.bcsm) r (entries_of n t.now) }
 {
@@ -119,6 +120,7 @@ pub(crate) fn arm_all(r: Record, n: u8, t: &[u8]) -> Record
 }
 
 // A Request report that no refusal applies to.
+#[tactic(auto, using(crate::proofs::Laws::entries_keep_kind))]
 pub(crate) fn request_report(r: Record, n: u8, entries: &[u8], t: Tenths) -> Stepped
     ensures { result ≡ request_report (set_of r.bcsm) r n entries.now t }
 {

@@ -93,6 +93,7 @@ fn begin(
 }
 
 // What the profile of a Setup says, if it is one.
+#[tactic(auto, using(crate::proofs::Laws::profile_read, crate::proofs::Laws::profile_refused), unfolding(forms::specs::Profile::profile_of))]
 fn read_opening(
     bcsm: Bcsm,
     nature: u8,
@@ -123,6 +124,7 @@ fn read_opening(
 }
 
 // An item that is not malformed, with its digits and the bytes of its profile: what comes before any call is looked at.
+#[tactic(auto, using(crate::proofs::SetupLaws::others, crate::proofs::SetupLaws::no_setup, crate::proofs::SetupLaws::early_setup, crate::proofs::SetupLaws::early_other))]
 pub fn early_of(item: Item, rest: &[u8], profile: &[u8]) -> Early
     ensures { result ≡ early_of false item rest.now profile.now }
 {
@@ -137,6 +139,7 @@ pub fn early_of(item: Item, rest: &[u8], profile: &[u8]) -> Early
 }
 
 // A Setup opens a call, as `early_of` said; all else is 4. For an owner who knows that the item is in range: of the ranges only the time's is looked at.
+#[tactic(auto, using(crate::proofs::SetupLaws::no_setup), unfolding(crate::specs::Setup::set_up_of))]
 pub fn set_up(item: Item, rest: &[u8], o: Opening) -> Stepped
     ensures { result ≡ set_up_of item rest.now o }
 {
@@ -163,6 +166,7 @@ pub fn set_up(item: Item, rest: &[u8], o: Opening) -> Stepped
 }
 
 // Any item, where no call is open: a Setup opens one.
+#[tactic(auto, unfolding(crate::specs::Setup::early_of, crate::specs::Setup::open_of))]
 pub fn open(item: Item, rest: &[u8], profile: &[u8]) -> Stepped
     ensures { result ≡ open_of item rest.now profile.now }
 {

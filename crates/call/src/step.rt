@@ -34,6 +34,7 @@ fn serve(r: Record, k: Kind, t: Tenths, rest: &[u8]) -> Stepped
 }
 
 // Refusals 5 and 7 to 14, and the answer where none applies. For an owner who knows that the record and the item are in range: of the ranges only the time's is looked at.
+#[tactic(auto, using(crate::proofs::Laws::passes), unfolding(crate::specs::Step::respond_in))]
 pub fn respond(r: Record, item: Item, rest: &[u8]) -> Stepped
     ensures { result ≡ respond_of r item rest.now }
 {
@@ -52,6 +53,7 @@ pub fn respond(r: Record, item: Item, rest: &[u8]) -> Stepped
 }
 
 // Any item for any record of an open call. A Setup is 5 here, whatever its profile: refusal 2 comes first, and is the caller's to give.
+#[tactic(auto, unfolding(crate::specs::Step::step_of))]
 pub fn step(r: Record, item: Item, rest: &[u8]) -> Stepped
     ensures { result ≡ step_of r item rest.now }
 {

@@ -24,6 +24,7 @@ fn service_holds(services: &[u8], service: u8) -> bool
 }
 
 // `profile` are the bytes of a profile, `p` its view; `count` is the digit count of the Setup, `dialled` its digits.
+#[tactic(auto, unfolding(forms::specs::Profile::profile_of))]
 fn all_hold(
     profile: &[u8],
     p: ProfileView,
@@ -45,6 +46,7 @@ fn all_hold(
 }
 
 // An originating Setup is triggered by all the criteria, a terminating one by the services alone.
+#[tactic(auto, unfolding(crate::specs::Trigger::triggers, forms::specs::Profile::profile_of))]
 pub(crate) fn is_triggered(
     bcsm: Bcsm,
     profile: &[u8],
