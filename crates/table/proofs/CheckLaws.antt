@@ -13,7 +13,7 @@ use lib.Seq.{drop-length, drop-cons, get_or-set_same, get_or-set_other, take-set
 use borrow.Author.Tests.{eq-eqb, ne_eqb, eqb-true, eqb-false}
 use Rattle.table.specs.Types.{Slot}
 use Rattle.table.specs.Table.{next, find, all, is_none, is_call, owns, is_sound_slot, absent, once, is_sound}
-use Rattle.table.specs.Slot.{our_slots, owner_of, blank_slot}
+use Rattle.table.specs.Slot.{our_slots, owner_of}
 use Rattle.table.specs.Check.{cons_call, calls, call_of, count_of, among, is_once}
 
 -- ---- the calls, from a place on
@@ -125,13 +125,14 @@ module _ (t : List Slot) where
 
   module _ (l : List ℕ) (n i : ℕ) where
     -- b: is slot i sound?
-    pub check_on : {b : Bool} → i < length t → n < length l
-        → let e = get_or t i blank_slot in let o = owner_of e.owner in is_sound_slot our_slots e ≡ b → check_from l n i ≡ b && check_from (set l n (call_of o)) (n + count_of o) (i + 1)
+    -- d is what a place past the end would give: any will do
+    pub check_on : {b : Bool} (d : Slot) → i < length t → n < length l
+        → let e = get_or t i d in let o = owner_of e.owner in is_sound_slot our_slots e ≡ b → check_from l n i ≡ b && check_from (set l n (call_of o)) (n + count_of o) (i + 1)
     unfolding all calls
-    check_on h k s =
-        let e = get_or t i blank_slot in
+    check_on d h k s =
+        let e = get_or t i d in
         let r = drop (suc i) t in
-        rw (← s, add-one, added (owner_of e.owner) l (calls r) n k, drop-cons t i blank_slot) (and_assoc (is_sound_slot our_slots e) (all (is_sound_slot our_slots) r) _)
+        rw (← s, add-one, added (owner_of e.owner) l (calls r) n k, drop-cons t i d h) (and_assoc (is_sound_slot our_slots e) (all (is_sound_slot our_slots) r) _)
 
     pub check_end : length t ≤ i → check_from l n i ≡ is_once (take n l)
     unfolding all calls

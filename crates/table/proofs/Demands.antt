@@ -138,8 +138,8 @@ unfolding all contains
 any_among t x = go (is_sound_table t) refl
   where
     go : (w : Bool) → is_sound_table t ≡ w → Among (numbers (feed t x.item x.profile)) (in_answer (feed_step t x).0)
-    go true e = fed_among true t x _ e refl
-    go false e = fed_among false t x _ e refl
+    go true e = fed_among true t x (numbers (feed t x.item x.profile)) e refl
+    go false e = fed_among false t x (numbers (feed t x.item x.profile)) e refl
 
 -- an item that a chunk completes is read; else a stop is 1 and a closed feeder 15
 chunk_among : (k : Taken) (f : Feeder) (c : List ℕ) → Among (1 ∷ 15 ∷ []) (in_completed (fed_as k f c).completed)
@@ -171,7 +171,7 @@ each_among (step r i rest) = answer_among step_numbers (step_of r i rest).answer
 each_among (feed t item profile) = any_among t (record { item = item; profile = profile })
 each_among (feed_item t i rest profile) =
     on_cond (λ (d : Answer × List Slot). Among (numbers (feed_item t i rest profile)) (in_answer d.0)) (item_in_range i rest) _ _ (any_among t (record { item = item_bytes i rest; profile = profile })) refl
-each_among (feed_sound t h item profile) = fed_among true t (record { item = item; profile = profile }) _ h refl
+each_among (feed_sound t h item profile) = fed_among true t (record { item = item; profile = profile }) (numbers (feed_sound t h item profile)) h refl
 
 among : (ns : List ℕ) (x : Option ℕ) → Among ns x → (n : ℕ) → x ≡ some n → contains n ns ≡ true
 among ns none h n e = cc

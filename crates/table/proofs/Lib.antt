@@ -14,7 +14,3 @@ pub mod LookupLaws
 pub mod ServeLaws
 pub mod LineLaws
 pub mod LineCases
-pub mod Elem
-pub mod Joins
-pub mod ByValue
-pub mod Lent

@@ -38,16 +38,17 @@ module _ (p : Slot → Bool) (t : List Slot) where
   pub ahead_start : Ahead 0
   ahead_start = sym (at_zero (find p t))
 
-  head : (i : ℕ) → i < length t → find p (drop i t) ≡ next (p (get_or t i blank_slot)) (find p (drop (suc i) t))
+  -- d is what a place past the end would give: any will do
+  head : (i : ℕ) (d : Slot) → i < length t → find p (drop i t) ≡ next (p (get_or t i d)) (find p (drop (suc i) t))
   unfolding find
-  head i h = rw (drop-cons t i blank_slot h)
+  head i d h = rw (drop-cons t i d h)
 
-  pub ahead_on : (i : ℕ) → i < length t → p (get_or t i blank_slot) ≡ false → Ahead i → Ahead (i + 1)
-  ahead_on i h e a = a ∙ ap (at i) (head i h ∙ ap (λ b. next b (find p (drop (suc i) t))) e) ∙ at_next i (find p (drop (suc i) t)) ∙ rw add-one
+  pub ahead_on : (i : ℕ) (d : Slot) → i < length t → p (get_or t i d) ≡ false → Ahead i → Ahead (i + 1)
+  ahead_on i d h e a = a ∙ ap (at i) (head i d h ∙ ap (λ b. next b (find p (drop (suc i) t))) e) ∙ at_next i (find p (drop (suc i) t)) ∙ rw add-one
 
-  pub ahead_here : (i : ℕ) → i < length t → p (get_or t i blank_slot) ≡ true → Ahead i → i ≡ place_or 64 (find p t)
+  pub ahead_here : (i : ℕ) (d : Slot) → i < length t → p (get_or t i d) ≡ true → Ahead i → i ≡ place_or 64 (find p t)
   unfolding next
-  ahead_here i h e a = rw (a ∙ ap (at i) (head i h ∙ ap (λ b. next b (find p (drop (suc i) t))) e)) (omega arith)
+  ahead_here i d h e a = rw (a ∙ ap (at i) (head i d h ∙ ap (λ b. next b (find p (drop (suc i) t))) e)) (omega arith)
 
   pub ahead_end : (i : ℕ) → length t ≤ i → Ahead i → 64 ≡ place_or 64 (find p t)
   unfolding find

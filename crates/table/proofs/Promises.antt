@@ -1,7 +1,7 @@
 -- What the table relies on: "each relies only on what the one below promises".
 use Prim.Native.Nat.{ℕ}
 use mathlib.Core.Path.{◌≡◌}
-use mathlib.Core.Bool.{Bool, true, false, cond}
+use mathlib.Core.Bool.{true, false, cond}
 use mathlib.Core.Option.{Option, none, some}
 use mathlib.Core.Logic.{◌≢◌}
 use Rattle.table.specs.Table.{Effect, refuses, goes, ends, OneCall, Slots, unless}

@@ -6,6 +6,7 @@ use mathlib.Core.Bool.{Bool, true, false, cond}
 use mathlib.Core.List.{List, [], ◌∷◌}
 use mathlib.Core.Option.{Option, none, some}
 use lib.ListN.{length, get_or, set, drop}
+use Rattle.std.proofs.lemmas.List.{get_or_default}
 use denote.Enum.Declared.{tag_of}
 use types.Run.{OneOf, miss}
 use borrow.Author.Tests.{eqb-true}
@@ -30,7 +31,7 @@ use Rattle.table.specs.Table.{Effect, find, is_free, owns, unless, store, seat, 
 use Rattle.table.specs.Slot.{our_slots, owned_by, blank_slot}
 use Rattle.table.specs.Feed.{item_in, rest_in, effect_as, our_call, is_sound_table, feed_of, feed_item_of}
 use Rattle.table.specs.Lookup.{spot_of, locate_of, slot_of}
-use Rattle.table.specs.Serve.{stored_at, served_at, served_of, fed_by, fed_of}
+use Rattle.table.specs.Serve.{acted_of, stored_at, served_at, served_of, fed_by, fed_of}
 use Rattle.table.proofs.Lists.{Found, found}
 use Rattle.table.proofs.Valid.{sound_valid}
 use Rattle.table.proofs.Ours.{item_fits, open_remains}
@@ -154,6 +155,10 @@ fed_item t i rest profile h k =
 
 pub sound_size : (t : List Slot) → is_sound_table t ≡ true → length t ≡ 64
 sound_size t e = eqb-true (length t) 64 (sound_valid our_slots t e).size
+
+-- of a slot that stands in the table: what a place past the end would give does not matter
+pub acted_at : (e : Early) (s : Spot) (t : List Slot) (k : ℕ) (x : Item) (rest : List ℕ) (d : Slot) {a : Stepped} → k < length t → a ≡ acted_of e s (get_or t k d).body x rest → a ≡ acted_of e s (get_or t k blank_slot).body x rest
+acted_at e s t k x rest d l h = h ∙ ap (λ (r : Slot). acted_of e s r.body x rest) (get_or_default t k d blank_slot l)
 
 pub found_inside : (t : List Slot) → length t ≡ 64 → (k : ℕ) (s : Spot) (i : ℕ) → s ≡ locate_of k t → i ≡ slot_of s → i < 64
 found_inside t h k s i f g = rw (g, f) (go (find (owns our_slots k) t) (find (is_free our_slots) t) (found (owns our_slots k) blank_slot t) (found (is_free our_slots) blank_slot t))

@@ -43,6 +43,7 @@ fn is_sound_slot(slot: Slot) -> bool
 }
 
 // The call k stands among those from place `from` on.
+#[tactic(auto, using(crate::proofs::CheckLaws::among_on, crate::proofs::CheckLaws::among_end))]
 fn is_repeated(l: &[u32], from: usize, k: u32) -> bool
     ensures { result ≡ among k (drop from l.now) }
 {
@@ -76,6 +77,7 @@ fn is_once(l: &[u32]) -> bool
 }
 
 // 64 records, each sound, and no call twice: one pass, which collects the calls, n so far. What a free slot stores is overwritten.
+#[tactic(auto, using(crate::proofs::CheckLaws::short, crate::proofs::CheckLaws::checked, crate::proofs::CheckLaws::check_end))]
 pub fn is_sound(table: &[Slot]) -> bool
     ensures { result ≡ is_sound_table table.now }
 {

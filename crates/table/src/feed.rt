@@ -28,6 +28,7 @@ pub(crate) fn serve_item(table: &mut [Slot], item: Item, rest: &[u8], early: Ear
 }
 
 // On a table that is known to be sound, as a fresh one is and this leaves it: refusal 3 is not looked for.
+#[tactic(auto, using(crate::proofs::Ours::fed_stays, crate::proofs::ServeLaws::sound_size, crate::proofs::ServeLaws::served_read, crate::proofs::ServeLaws::refused_read))]
 pub fn feed_sound(table: &mut [Slot], item: &[u8], profile: &[u8]) -> Answer
     requires { is_sound_table table.old ≡ true }
     ensures { Feeds (turn table.old item.now profile.now result table.new) × (is_sound_table table.new ≡ true) }
@@ -44,6 +45,7 @@ pub fn feed_sound(table: &mut [Slot], item: &[u8], profile: &[u8]) -> Answer
 }
 
 // On any table, an item that was read.
+#[tactic(auto, using(crate::proofs::ServeLaws::fed_later, crate::proofs::ServeLaws::sound_size))]
 pub(crate) fn feed_read(table: &mut [Slot], item: Item, rest: &[u8], profile: &[u8]) -> Answer
     ensures { (result, table.new) ≡ fed_of table.old item rest.now profile.now }
 {
@@ -61,6 +63,7 @@ pub(crate) fn feed_read(table: &mut [Slot], item: Item, rest: &[u8], profile: &[
 }
 
 // On any table, of any length.
+#[tactic(auto, using(crate::proofs::ServeLaws::fed_read, crate::proofs::ServeLaws::refused_read))]
 pub fn feed(table: &mut [Slot], item: &[u8], profile: &[u8]) -> Answer
     ensures { Feeds (turn table.old item.now profile.now result table.new) }
 {
@@ -72,6 +75,7 @@ pub fn feed(table: &mut [Slot], item: &[u8], profile: &[u8]) -> Answer
 }
 
 // The same for somebody who has the item already, with its digits or entries, as the feeder hands it out.
+#[tactic(auto, using(crate::proofs::ServeLaws::fed_item))]
 pub fn feed_item(table: &mut [Slot], item: Item, rest: &[u8], profile: &[u8]) -> Answer
     ensures { (result, table.new) ≡ feed_item_of table.old item rest.now profile.now }
 {

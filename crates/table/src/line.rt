@@ -29,6 +29,7 @@ fn put(out: &mut [u8], at: usize, t: &[u8]) -> usize
 }
 
 // How many digits the number has.
+#[tactic(auto, using(crate::proofs::LineLaws::one_size, crate::proofs::LineLaws::last_size))]
 fn digit_count(n: u64) -> usize
     ensures { (result ≡ length (decimal n)) × ((1 ≤ result) × (result ≤ 20)) }
 {
@@ -42,6 +43,7 @@ fn digit_count(n: u64) -> usize
 }
 
 // The digits go in from the last to the first.
+#[tactic(auto, using(crate::proofs::LineLaws::some_digit, crate::proofs::LineLaws::one_size, crate::proofs::LineLaws::last_size, crate::proofs::LineLaws::one_digit, crate::proofs::LineLaws::last_digit))]
 fn put_number(out: &mut [u8], at: usize, n: u64) -> usize
     requires { at + length (decimal n) ≤ length out.old }
     ensures { Stored 20 (decimal n) out.old at out.new result }
@@ -216,6 +218,7 @@ pub fn line(out: &mut [u8], at: usize, number: u64, answer: Answer) -> Printed
 }
 
 // Stores the line above all others.
+#[tactic(auto, using(crate::proofs::LineLaws::no_room))]
 pub fn header(out: &mut [u8], at: usize) -> Printed
     ensures out_after { (result, out.new) ≡ printed header_text out.old at }
     ensures at_bound { place_after result at ≤ at + longest }

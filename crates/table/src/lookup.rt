@@ -44,6 +44,7 @@ pub(crate) fn is_of(wanted: Owner, slot: Slot) -> bool
 }
 
 // The place of the first slot that has the owner; 64 where none has.
+#[tactic(auto, using(crate::proofs::LookupLaws::ahead_start, crate::proofs::LookupLaws::ahead_end))]
 pub(crate) fn first_of(table: &[Slot], wanted: Owner) -> usize
     requires { length table.now ≡ 64 }
     ensures { result ≡ place_or 64 (find (is_of wanted) table.now) }
@@ -60,6 +61,7 @@ pub(crate) fn first_of(table: &[Slot], wanted: Owner) -> usize
 }
 
 // The call's slot, or else the lowest free one, which is looked for only then.
+#[tactic(auto, using(crate::proofs::LookupLaws::own_located, crate::proofs::LookupLaws::free_located, crate::proofs::LookupLaws::not_located))]
 pub(crate) fn locate(table: &[Slot], call: u32) -> Spot
     requires { length table.now ≡ 64 }
     ensures { result ≡ locate_of call table.now }

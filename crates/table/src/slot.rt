@@ -19,6 +19,7 @@ pub struct Slot {
     pub body: Record,
 }
 
+#[tactic(auto, unfolding(crate::specs::Slot::blank_slot))]
 pub fn blank_slot() -> Slot
     ensures { result ≡ blank_slot }
 {
@@ -28,8 +29,10 @@ pub fn blank_slot() -> Slot
 }
 
 // A fresh table: 64 free records.
+#[tactic(auto, using(crate::proofs::Ours::made_fresh))]
 pub fn fresh() -> [Slot; 64]
     ensures { (result ≡ fresh our_slots) × (is_sound_table result ≡ true) }
 {
-    [blank_slot(); 64]
+    let blank = blank_slot();
+    [blank; 64]
 }
