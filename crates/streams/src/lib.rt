@@ -1,0 +1,49 @@
+// Whole reads and writes for the programs, over std's readers and writers. At the three standard streams a `read` or a `write` is one call of the system, with no buffer between.
+// A call that a signal interrupts before it moves a byte counts as one that failed: nothing is tried again.
+#![tactic(auto)]
+
+ghost use Rattle.std.specs.Prelude.{◌≡◌, ℕ, ◌≤◌, length, take, IsTrue};
+ghost use Rattle.std.specs.Io.KnownBytes.{Appends, Consumes};
+ghost use Rattle.io.specs.Digits.{IsDigitCount, last_digits};
+
+pub use io::large_buffer;
+use std::io::{Read, Write};
+
+// Writes all of the bytes and answers true, or stops at the first write that takes nothing or fails and answers false, when some of the bytes may have been written. For no bytes it makes no call.
+pub fn write_all<W: Write>(to: &mut W, bytes: &[u8]) -> bool
+    ensures { IsTrue result → Appends (W.contents to.old) (W.contents to.new) bytes.now }
+{
+    let mut done = 0;
+    while done < bytes.len() {
+        match to.write(&bytes[done..]) {
+            Ok(0) | Err(_) => return false,
+            Ok(n) => done += n,
+        }
+    }
+    true
+}
+
+// Writes n in decimal digits, with no line end, and answers what `write_all` does.
+pub fn write_decimal<W: Write>(to: &mut W, n: u64) -> bool
+    ensures { IsTrue result → (k : ℕ) × IsDigitCount 10 1 n k
+        × Appends (W.contents to.old) (W.contents to.new) (last_digits 10 k n) }
+{
+    let mut text = [0u8; 20];
+    let k = io::decimal(n, &mut text);
+    write_all(to, &text[..k])
+}
+
+// Reads until the buffer is full, the input ends or a read fails, and answers how many bytes it put at the start of the buffer. For no room it makes no call.
+pub fn read_full<R: Read>(from: &mut R, buf: &mut [u8]) -> usize
+    ensures within { result ≤ length buf.new }
+    ensures bytes { Consumes (R.remaining from.old) (R.remaining from.new) (take result buf.new) }
+{
+    let mut done = 0;
+    while done < buf.len() {
+        match from.read(&mut buf[done..]) {
+            Ok(0) | Err(_) => return done,
+            Ok(n) => done += n,
+        }
+    }
+    done
+}
