@@ -1,5 +1,7 @@
 // Runs the layer `forms` on test vectors: text in, one line out for each line in.
 // `# ..` and an empty line come out as they are; `item HEX` and `profile HEX` give what was read, or the refusal; any other line gives `?`.
+#![tactic(auto)]
+
 mod hex;
 mod show;
 mod text;
@@ -8,7 +10,7 @@ ghost use Rattle.std.specs.Prelude.{◌≤◌, length};
 
 use forms::bytes;
 use hex::Hex;
-use libc::STDIN_FILENO;
+use std::io::Stdout;
 
 #[derive(Clone, Copy)]
 pub enum Form {
@@ -42,38 +44,39 @@ fn line_of(t: &[u8]) -> Line {
 }
 
 // The answer to the bytes of a vector: each form has its own reader.
-fn show_bytes(form: Form, s: &[u8]) {
+fn show_bytes(out: &mut Stdout, form: Form, s: &[u8]) {
     match form {
-        Form::Item => show::show_item(s),
-        Form::Profile => show::show_profile(s),
+        Form::Item => show::show_item(out, s),
+        Form::Profile => show::show_profile(out, s),
     }
 }
 
 // The answer to a vector whose digits are t.
-fn show_vector(form: Form, t: &[u8]) {
+fn show_vector(out: &mut Stdout, form: Form, t: &[u8]) {
     let mut d = [0u8; 256];
     let got = hex::unhex(t, &mut d);
     match got {
-        Hex::Bytes(n) => show_bytes(form, bytes::part_of(&d, 0, n)),
-        Hex::Wrong => text::put(b"?"),
+        Hex::Bytes(n) => show_bytes(out, form, bytes::part_of(&d, 0, n)),
+        Hex::Wrong => text::put(out, b"?"),
     }
 }
 
 // One line out for one line in, whatever it holds.
-fn show_line(t: &[u8]) {
+fn show_line(out: &mut Stdout, t: &[u8]) {
     let line = line_of(t);
     match line {
-        Line::Copied => text::put(t),
-        Line::Vector(form, a) => show_vector(form, bytes::from(t, a)),
-        Line::Other => text::put(b"?"),
+        Line::Copied => text::put(out, t),
+        Line::Vector(form, a) => show_vector(out, form, bytes::from(t, a)),
+        Line::Other => text::put(out, b"?"),
     }
-    text::put(b"\n");
+    text::put(out, b"\n");
 }
 
 // The end of the line that is at place a: its line feed, or the end of the text.
 fn line_end(t: &[u8], a: usize) -> usize
     requires { a ≤ length t.now }
-    ensures { (a ≤ result) × (result ≤ length t.now) }
+    ensures begins { a ≤ result }
+    ensures ends { result ≤ length t.now }
 {
     let mut i = a;
     while i < t.len() {
@@ -86,11 +89,11 @@ fn line_end(t: &[u8], a: usize) -> usize
 }
 
 // Each line in its turn. The last one need not end in a line feed.
-fn show_lines(t: &[u8]) {
+fn show_lines(out: &mut Stdout, t: &[u8]) {
     let mut a = 0;
     while a < t.len() {
         let end = line_end(t, a);
-        show_line(&t[a..end]);
+        show_line(out, &t[a..end]);
         if end == t.len() {
             return;
         }
@@ -99,8 +102,8 @@ fn show_lines(t: &[u8]) {
 }
 
 // At most one large buffer of input is read; what is beyond it is left.
-fn main() {
-    let mut text = io::large_buffer();
-    let n = io::read_full(STDIN_FILENO, &mut text);
-    show_lines(&text[..n]);
+fn main(rt: HostRuntime) {
+    let mut text = streams::large_buffer();
+    let n = streams::read_full(&mut rt.stdin(), &mut text);
+    show_lines(&mut rt.stdout(), &text[..n]);
 }

@@ -4,6 +4,7 @@ use forms::item::{Bcsm, Body, Entry, Item, ReadItem};
 use forms::profile::{Criterion, Handling, ProfileView, ReadProfile};
 use forms::write::Written;
 use forms::{bytes, item, profile, write};
+use std::io::Stdout;
 
 fn setup_kind(bcsm: Bcsm) -> u64 {
     match bcsm {
@@ -36,18 +37,18 @@ fn kind_of(body: Body) -> u64 {
 }
 
 // ` POINT/LEG/MODE/TIMER`.
-fn show_entry(e: Entry) {
-    text::put_field(b" ", e.point as u64);
-    text::put_field(b"/", e.leg as u64);
-    text::put_field(b"/", e.mode as u64);
-    text::put_field(b"/", e.timer.0 as u64);
+fn show_entry(out: &mut Stdout, e: Entry) {
+    text::put_field(out, b" ", e.point as u64);
+    text::put_field(out, b"/", e.leg as u64);
+    text::put_field(out, b"/", e.mode as u64);
+    text::put_field(out, b"/", e.timer.0 as u64);
 }
 
 // All `count` entries, which are the bytes `rest`.
-fn show_entries(rest: &[u8], count: u8) {
+fn show_entries(out: &mut Stdout, rest: &[u8], count: u8) {
     let mut i: u8 = 0;
     while i < count {
-        show_entry(item::nth_entry(rest, i));
+        show_entry(out, item::nth_entry(rest, i));
         i += 1;
     }
 }
@@ -76,39 +77,39 @@ fn is_same(item: Item, rest: &[u8], s: &[u8]) -> bool {
 }
 
 // Writing is the inverse of reading: ` DIFFERS` is always a fault.
-fn show_same(same: bool) {
+fn show_same(out: &mut Stdout, same: bool) {
     if same {
-        text::put(b" same");
+        text::put(out, b" same");
     } else {
-        text::put(b" DIFFERS");
+        text::put(out, b" DIFFERS");
     }
 }
 
 // The item read from s, whose digits or entries begin at place `at`.
-fn show_fields(item: Item, at: usize, s: &[u8]) {
+fn show_fields(out: &mut Stdout, item: Item, at: usize, s: &[u8]) {
     let body = item.body;
     let time = item.time.0;
     let rest = bytes::from(s, at);
-    text::put_field(b"item ", kind_of(body));
-    text::put_field(b" call ", item.call as u64);
-    text::put_field(b" time ", time);
-    text::put_field(b" at ", at as u64);
-    text::put_field(b" rest ", rest.len() as u64);
-    show_entries(rest, entries_of(body));
-    show_same(is_same(item, rest, s));
+    text::put_field(out, b"item ", kind_of(body));
+    text::put_field(out, b" call ", item.call as u64);
+    text::put_field(out, b" time ", time);
+    text::put_field(out, b" at ", at as u64);
+    text::put_field(out, b" rest ", rest.len() as u64);
+    show_entries(out, rest, entries_of(body));
+    show_same(out, is_same(item, rest, s));
 }
 
 // Items and profiles are refused alike, by a number.
-fn show_refused(n: u8) {
-    text::put_field(b"refused ", n as u64);
+fn show_refused(out: &mut Stdout, n: u8) {
+    text::put_field(out, b"refused ", n as u64);
 }
 
 // The item that the bytes are, or the refusal.
-pub(crate) fn show_item(s: &[u8]) {
+pub(crate) fn show_item(out: &mut Stdout, s: &[u8]) {
     let read = item::read_item(s);
     match read {
-        ReadItem::Item(item, at) => show_fields(item, at, s),
-        ReadItem::Refused(n) => show_refused(n),
+        ReadItem::Item(item, at) => show_fields(out, item, at, s),
+        ReadItem::Refused(n) => show_refused(out, n),
     }
 }
 
@@ -129,26 +130,26 @@ fn criterion_number(c: Criterion) -> u64 {
 }
 
 // The profile read from s. Its lists stand in s.
-fn show_view(p: ProfileView, s: &[u8]) {
+fn show_view(out: &mut Stdout, p: ProfileView, s: &[u8]) {
     let handling = p.handling;
     let sense = p.sense;
     let forwarding = p.forwarding;
     let timer = p.timer.0;
     let lengths = profile::list_at(s, p.lengths);
     let services = profile::list_at(s, p.services);
-    text::put_field(b"profile handling ", handling_number(handling));
-    text::put_field(b" timer ", timer as u64);
-    text::put_field(b" sense ", criterion_number(sense));
-    text::put_field(b" lengths ", lengths.len() as u64);
-    text::put_field(b" services ", services.len() as u64);
-    text::put_field(b" forwarding ", criterion_number(forwarding));
+    text::put_field(out, b"profile handling ", handling_number(handling));
+    text::put_field(out, b" timer ", timer as u64);
+    text::put_field(out, b" sense ", criterion_number(sense));
+    text::put_field(out, b" lengths ", lengths.len() as u64);
+    text::put_field(out, b" services ", services.len() as u64);
+    text::put_field(out, b" forwarding ", criterion_number(forwarding));
 }
 
 // The profile that the bytes are, or the refusal.
-pub(crate) fn show_profile(s: &[u8]) {
+pub(crate) fn show_profile(out: &mut Stdout, s: &[u8]) {
     let read = profile::read_profile(s);
     match read {
-        ReadProfile::Profile(p) => show_view(p, s),
-        ReadProfile::Refused(n) => show_refused(n),
+        ReadProfile::Profile(p) => show_view(out, p, s),
+        ReadProfile::Refused(n) => show_refused(out, n),
     }
 }
