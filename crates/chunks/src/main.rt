@@ -2,11 +2,13 @@
 // A case: its length (2 bytes, themselves included); a feeder, 65 bytes, its count (8) and whether it is stopped (1 byte, 0 if not); and steps to the case's end.
 // A step is a number of 2 bytes: 65535 for a reset, any other for a chunk of so many bytes, which follow.
 // Each case is answered by a line with its number, and each call by a line (show.rt). After an item and after an answer 1 the chunk's rest is offered again.
+#![tactic(auto)]
+
 mod show;
 
 use forms::feeder::{Completed, Feeder, Gathered};
 use forms::{bytes, feeder};
-use libc::STDIN_FILENO;
+use std::io::{Stdin, Stdout};
 
 // The length of a case without steps.
 const HEAD: usize = 76;
@@ -48,7 +50,7 @@ fn is_answer(c: Completed) -> bool {
 }
 
 // Feeds a chunk, and offers its rest again. As every answer uses a byte, one call more than it has bytes is enough.
-fn feed_chunk(f: Feeder, c: &[u8]) -> Feeder {
+fn feed_chunk(out: &mut Stdout, f: Feeder, c: &[u8]) -> Feeder {
     let mut feeder = f;
     let mut left = c.len();
     let mut calls = 0;
@@ -56,7 +58,7 @@ fn feed_chunk(f: Feeder, c: &[u8]) -> Feeder {
         let fed = feeder::feed(feeder, bytes::from(c, bytes::minus(c.len(), left)));
         let next = fed.feeder;
         let completed = fed.completed;
-        show::show_fed(fed);
+        show::show_fed(out, fed);
         feeder = next;
         if !is_answer(completed) {
             return feeder;
@@ -67,14 +69,14 @@ fn feed_chunk(f: Feeder, c: &[u8]) -> Feeder {
     feeder
 }
 
-fn reset(f: Feeder) -> Feeder {
+fn reset(out: &mut Stdout, f: Feeder) -> Feeder {
     let d = feeder::reset(f);
-    show::show_dropped(d);
+    show::show_dropped(out, d);
     d.feeder
 }
 
 // The steps t of a case, one after the other.
-fn run_steps(f: Feeder, t: &[u8]) {
+fn run_steps(out: &mut Stdout, f: Feeder, t: &[u8]) {
     let mut feeder = f;
     let mut at = 0;
     while at < t.len() {
@@ -84,10 +86,10 @@ fn run_steps(f: Feeder, t: &[u8]) {
         }
         at += 2;
         if n == RESET {
-            let next = reset(feeder);
+            let next = reset(out, feeder);
             feeder = next;
         } else {
-            let next = feed_chunk(feeder, bytes::part_of(t, at, n));
+            let next = feed_chunk(out, feeder, bytes::part_of(t, at, n));
             feeder = next;
             at += n;
         }
@@ -95,11 +97,11 @@ fn run_steps(f: Feeder, t: &[u8]) {
 }
 
 // Reads one case to the start of s; answers its length, 0 where there is none, or none that is whole.
-fn read_case(s: &mut [u8]) -> usize {
+fn read_case(from: &mut Stdin, s: &mut [u8]) -> usize {
     if s.len() < HEAD {
         return 0;
     }
-    let head = io::read_full(STDIN_FILENO, &mut s[..HEAD]);
+    let head = streams::read_full(from, &mut s[..HEAD]);
     let n = bytes::number2(s);
     if head < HEAD {
         return 0;
@@ -110,25 +112,25 @@ fn read_case(s: &mut [u8]) -> usize {
     if s.len() < n {
         return 0;
     }
-    let rest = io::read_full(STDIN_FILENO, &mut s[HEAD..n]);
+    let rest = streams::read_full(from, &mut s[HEAD..n]);
     if rest < n - HEAD { 0 } else { n }
 }
 
-fn run(s: &mut [u8]) {
+fn run(from: &mut Stdin, out: &mut Stdout, s: &mut [u8]) {
     let mut number: u64 = 0;
     while number < u64::MAX {
         number += 1;
-        let n = read_case(s);
+        let n = read_case(from, s);
         if n == 0 {
             return;
         }
         let t = bytes::part_of(s, 0, n);
-        show::show_case(number);
-        run_steps(feeder_of(t), bytes::from(t, HEAD));
+        show::show_case(out, number);
+        run_steps(out, feeder_of(t), bytes::from(t, HEAD));
     }
 }
 
-fn main() {
-    let mut input = io::large_buffer();
-    run(&mut input);
+fn main(rt: HostRuntime) {
+    let mut input = streams::large_buffer();
+    run(&mut rt.stdin(), &mut rt.stdout(), &mut input);
 }

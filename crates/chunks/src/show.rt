@@ -3,14 +3,14 @@
 // LEFT is the feeder afterwards: its count, the bytes that it holds, if any, and whether it is stopped.
 use forms::bytes;
 use forms::feeder::{Completed, Dropped, Fed, Feeder, Gathered};
-use libc::STDOUT_FILENO;
+use std::io::Stdout;
 
-fn put(t: &[u8]) {
-    io::write_all(STDOUT_FILENO, t);
+fn put(out: &mut Stdout, t: &[u8]) {
+    streams::write_all(out, t);
 }
 
-fn put_number(n: u64) {
-    io::print_decimal(STDOUT_FILENO, n);
+fn put_number(out: &mut Stdout, n: u64) {
+    streams::write_decimal(out, n);
 }
 
 fn digit(n: u8) -> u8 {
@@ -19,7 +19,7 @@ fn digit(n: u8) -> u8 {
 }
 
 // Two digits a byte, of 65 bytes at most.
-fn put_hex(s: &[u8]) {
+fn put_hex(out: &mut Stdout, s: &[u8]) {
     let mut d = [0u8; 130];
     let mut i = 0;
     while i < 65 {
@@ -28,61 +28,61 @@ fn put_hex(s: &[u8]) {
         d[2 * i + 1] = digit(b);
         i += 1;
     }
-    put(bytes::part_of(&d, 0, 2 * s.len()));
+    put(out, bytes::part_of(&d, 0, 2 * s.len()));
 }
 
-fn put_bytes(g: Gathered) {
+fn put_bytes(out: &mut Stdout, g: Gathered) {
     let b = g.bytes;
-    put_hex(bytes::part_of(&b, 0, g.count));
+    put_hex(out, bytes::part_of(&b, 0, g.count));
 }
 
-fn put_left(f: Feeder) {
+fn put_left(out: &mut Stdout, f: Feeder) {
     let held = f.held;
-    put(b" left ");
-    put_number(held.count as u64);
+    put(out, b" left ");
+    put_number(out, held.count as u64);
     if 0 < held.count {
-        put(b" ");
-        put_bytes(held);
+        put(out, b" ");
+        put_bytes(out, held);
     }
     if f.stopped {
-        put(b" stopped");
+        put(out, b" stopped");
     }
-    put(b"\n");
+    put(out, b"\n");
 }
 
-fn put_completed(c: Completed, g: Gathered) {
+fn put_completed(out: &mut Stdout, c: Completed, g: Gathered) {
     match c {
         Completed::Item(_, _) => {
-            put(b" item ");
-            put_bytes(g);
+            put(out, b" item ");
+            put_bytes(out, g);
         }
         Completed::Refused(n) => {
-            put(b" refused ");
-            put_number(n as u64);
+            put(out, b" refused ");
+            put_number(out, n as u64);
         }
-        Completed::UsedUp => put(b" used-up"),
+        Completed::UsedUp => put(out, b" used-up"),
     }
 }
 
-pub(crate) fn show_fed(fed: Fed) {
+pub(crate) fn show_fed(out: &mut Stdout, fed: Fed) {
     let completed = fed.completed;
     let item = fed.bytes;
     let feeder = fed.feeder;
-    put(b"fed ");
-    put_number(fed.used as u64);
-    put_completed(completed, item);
-    put_left(feeder);
+    put(out, b"fed ");
+    put_number(out, fed.used as u64);
+    put_completed(out, completed, item);
+    put_left(out, feeder);
 }
 
-pub(crate) fn show_dropped(d: Dropped) {
+pub(crate) fn show_dropped(out: &mut Stdout, d: Dropped) {
     let feeder = d.feeder;
-    put(b"reset ");
-    put_number(d.count as u64);
-    put_left(feeder);
+    put(out, b"reset ");
+    put_number(out, d.count as u64);
+    put_left(out, feeder);
 }
 
-pub(crate) fn show_case(number: u64) {
-    put(b"case ");
-    put_number(number);
-    put(b"\n");
+pub(crate) fn show_case(out: &mut Stdout, number: u64) {
+    put(out, b"case ");
+    put_number(out, number);
+    put(out, b"\n");
 }
