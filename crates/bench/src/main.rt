@@ -2,13 +2,15 @@
 // Standard input: what to do (1 byte), how often (4 bytes), a profile, and items to the end, after the last of which comes the first again; at most 65536 bytes.
 // 0 `feed`, 1 `feed_sound`: writes how many items were fed and how many of them were refused.
 // 2 trigger checks with the last digit first, any other number from the front; the items are Setups: writes how many checks were made, in how many a stored number matched, and how many digit pairs were compared.
+#![tactic(auto)]
+
 mod trigger;
 
 ghost use Rattle.std.specs.Prelude.{◌<◌};
 
 use call::answers::Answer;
 use forms::bytes;
-use libc::{STDIN_FILENO, STDOUT_FILENO};
+use std::io::Stdout;
 use table::{feed, slot};
 use trigger::Checked;
 
@@ -139,35 +141,35 @@ fn check_all(buf: &[u8], last_first: bool) -> Checked {
     Checked { matched, pairs }
 }
 
-fn write_next(n: u64) {
-    io::write_all(STDOUT_FILENO, b" ");
-    io::print_decimal(STDOUT_FILENO, n);
+fn write_next(out: &mut Stdout, n: u64) {
+    streams::write_all(out, b" ");
+    streams::write_decimal(out, n);
 }
 
-fn report_fed(buf: &[u8], checked: bool) {
+fn report_fed(out: &mut Stdout, buf: &[u8], checked: bool) {
     let s = run(buf, checked);
-    write_next(s.refused);
+    write_next(out, s.refused);
 }
 
-fn report_checked(buf: &[u8], last_first: bool) {
+fn report_checked(out: &mut Stdout, buf: &[u8], last_first: bool) {
     let c = check_all(buf, last_first);
-    write_next(c.matched as u64);
-    write_next(c.pairs as u64);
+    write_next(out, c.matched as u64);
+    write_next(out, c.pairs as u64);
 }
 
-fn report(buf: &[u8]) {
+fn report(out: &mut Stdout, buf: &[u8]) {
     let what = bytes::at(buf, 0);
-    io::print_decimal(STDOUT_FILENO, total(buf) as u64);
+    streams::write_decimal(out, total(buf) as u64);
     if what <= FEED_SOUND {
-        report_fed(buf, what == FEED);
+        report_fed(out, buf, what == FEED);
     } else {
-        report_checked(buf, what == LAST_FIRST);
+        report_checked(out, buf, what == LAST_FIRST);
     }
-    io::write_all(STDOUT_FILENO, b"\n");
+    streams::write_all(out, b"\n");
 }
 
-fn main() {
-    let mut buf = io::large_buffer();
-    let n = io::read_full(STDIN_FILENO, &mut buf);
-    report(&buf[..n]);
+fn main(rt: HostRuntime) {
+    let mut buf = streams::large_buffer();
+    let n = streams::read_full(&mut rt.stdin(), &mut buf);
+    report(&mut rt.stdout(), &buf[..n]);
 }

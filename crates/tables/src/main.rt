@@ -1,13 +1,15 @@
 // A test program: tables as bytes on standard input, damaged ones and such as no run reaches, each with one item, which goes through the public `feed`.
 // A case: its length (2 bytes, themselves included), the number of slots n (0..100), n slots (form.rt), the length of a profile (1 byte) and the profile, and the item's bytes to the end.
 // Each case is answered by the item's line of a listing, with the case's number, and by the n slots as they are then.
+#![tactic(auto)]
+
 ghost use Rattle.std.specs.Prelude.{◌≡◌, ◌≤◌, length};
 
 mod form;
 
 use call::answers::Answer;
 use forms::bytes;
-use libc::{STDIN_FILENO, STDOUT_FILENO};
+use std::io::{Stdin, Stdout};
 use table::slot::Slot;
 use table::{feed, line, slot};
 
@@ -85,11 +87,11 @@ fn answer_case(s: &[u8], d: &mut [u8], number: u64) -> usize {
 }
 
 // Reads one case to the start of s; answers its length, 0 where there is none, or none that is whole.
-fn read_case(s: &mut [u8]) -> usize {
+fn read_case(from: &mut Stdin, s: &mut [u8]) -> usize {
     if s.len() < 2 {
         return 0;
     }
-    let head = io::read_full(STDIN_FILENO, &mut s[..2]);
+    let head = streams::read_full(from, &mut s[..2]);
     let n = bytes::number2(s);
     if head < 2 {
         return 0;
@@ -100,25 +102,25 @@ fn read_case(s: &mut [u8]) -> usize {
     if s.len() < n {
         return 0;
     }
-    let rest = io::read_full(STDIN_FILENO, &mut s[2..n]);
+    let rest = streams::read_full(from, &mut s[2..n]);
     if rest < n - 2 { 0 } else { n }
 }
 
-fn run(s: &mut [u8], d: &mut [u8]) {
+fn run(from: &mut Stdin, out: &mut Stdout, s: &mut [u8], d: &mut [u8]) {
     let mut number: u64 = 0;
     while number < u64::MAX {
         number += 1;
-        let n = read_case(s);
+        let n = read_case(from, s);
         if n == 0 {
             return;
         }
         let m = answer_case(bytes::part_of(s, 0, n), d, number);
-        io::write_all(STDOUT_FILENO, bytes::part_of(d, 0, m));
+        streams::write_all(out, bytes::part_of(d, 0, m));
     }
 }
 
-fn main() {
-    let mut input = io::large_buffer();
-    let mut output = io::large_buffer();
-    run(&mut input, &mut output);
+fn main(rt: HostRuntime) {
+    let mut input = streams::large_buffer();
+    let mut output = streams::large_buffer();
+    run(&mut rt.stdin(), &mut rt.stdout(), &mut input, &mut output);
 }
