@@ -7,7 +7,8 @@ ghost use Rattle.listing.specs.Input.{is_unfinished, goes_on};
 use forms::feeder::{Feeder, Taken};
 use forms::framing::Framing;
 use forms::{bytes, feeder, framing};
-use libc::{STDERR_FILENO, STDIN_FILENO};
+use std::io;
+use std::io::Read;
 
 // The input stands in the first half of the program's one buffer.
 pub const HALF: usize = 32768;
@@ -32,11 +33,11 @@ pub struct Arrived {
 }
 
 // Whether what a read answered means that it failed, which is said.
-fn has_failed(got: isize) -> bool {
-    let failed = got < 0;
+fn has_failed(rt: &HostRuntime, got: &io::Result<usize>) -> bool {
+    let failed = got.is_err();
     if failed {
-        io::write_all(
-            STDERR_FILENO,
+        streams::write_all(
+            &mut rt.stderr(),
             b"listing: reading standard input failed; the listing ends before what could not be read\n",
         );
     }
@@ -44,16 +45,17 @@ fn has_failed(got: isize) -> bool {
 }
 
 // One read to place `at` and behind it.
-fn read_to(s: &mut [u8], at: usize) -> Arrived
-    requires { (at ≤ 32768) × (32768 ≤ length s.old) }
-    ensures { (at ≤ result.end) × (result.end ≤ 32768) }
+fn read_to(rt: &HostRuntime, s: &mut [u8], at: usize) -> Arrived
+    requires begins { at ≤ 32768 }
+    requires room { 32768 ≤ length s.old }
+    ensures begins { at ≤ result.end }
+    ensures ends { result.end ≤ 32768 }
 {
-    let part = &mut s[at..HALF];
-    let got = libc::read(STDIN_FILENO, part);
-    let end = at + io::count(got, part);
+    let got = rt.stdin().read(&mut s[at..HALF]);
+    let failed = has_failed(rt, &got);
     Arrived {
-        end,
-        failed: has_failed(got),
+        end: at + got.unwrap_or(0),
+        failed,
     }
 }
 
@@ -63,12 +65,12 @@ fn profile_in(s: &[u8], end: usize) -> Framing {
 }
 
 // Reads until the profile is whole, or the input ends.
-fn fill(s: &mut [u8]) -> Arrived
+fn fill(rt: &HostRuntime, s: &mut [u8]) -> Arrived
     requires { 32768 ≤ length s.old }
 {
     let mut e = 0;
     while framing::is_short(profile_in(s, e)) {
-        let more = read_to(s, e);
+        let more = read_to(rt, s, e);
         let end = more.end;
         if end <= e {
             return more;
@@ -82,7 +84,7 @@ fn fill(s: &mut [u8]) -> Arrived
 }
 
 // Finds the profile.
-pub(crate) fn find_profile(s: &mut [u8]) -> Place {
+pub(crate) fn find_profile(rt: &HostRuntime, s: &mut [u8]) -> Place {
     if s.len() < HALF {
         return Place {
             at: 0,
@@ -91,7 +93,7 @@ pub(crate) fn find_profile(s: &mut [u8]) -> Place {
             failed: false,
         };
     }
-    let arrived = fill(s);
+    let arrived = fill(rt, s);
     Place {
         at: 0,
         end: arrived.end,
@@ -134,16 +136,16 @@ pub struct Reading {
 }
 
 // Reads on behind the bytes that f holds, until a chunk finishes the item or the input ends.
-fn read_on(s: &mut [u8], f: Feeder) -> Reading
+fn read_on(rt: &HostRuntime, s: &mut [u8], f: Feeder) -> Reading
     requires { 32768 ≤ length s.old }
 {
     let mut feeder = f;
-    let mut last = read_to(s, BASE);
+    let mut last = read_to(rt, s, BASE);
     while goes_on(feeder, chunk_in(s, BASE, last.end)) {
         let fed = feeder::feed(feeder, chunk_in(s, BASE, last.end));
         let next = fed.feeder;
         feeder = next;
-        last = read_to(s, BASE);
+        last = read_to(rt, s, BASE);
     }
     Reading {
         feeder,
@@ -195,10 +197,10 @@ fn found_of(t: Taken, held: usize) -> Framing {
 }
 
 // The item whose first bytes the feeder holds, put together in the buffer.
-fn find_on(s: &mut [u8], f: Feeder) -> Place
+fn find_on(rt: &HostRuntime, s: &mut [u8], f: Feeder) -> Place
     requires { 32768 ≤ length s.old }
 {
-    let r = read_on(s, f);
+    let r = read_on(rt, s, f);
     let end = r.end;
     let g = r.feeder;
     let at = put_held(s, g);
@@ -223,7 +225,7 @@ pub(crate) fn find_here(s: &[u8], at: usize, end: usize) -> Place {
 }
 
 // Finds the item that begins at `at`: there, or, where it is not whole, put together from what follows in the input.
-pub(crate) fn find_item(s: &mut [u8], at: usize, end: usize) -> Place {
+pub(crate) fn find_item(rt: &HostRuntime, s: &mut [u8], at: usize, end: usize) -> Place {
     let here = find_here(s, at, end);
     let found = here.found;
     if framing::is_short(found) {
@@ -231,7 +233,7 @@ pub(crate) fn find_item(s: &mut [u8], at: usize, end: usize) -> Place {
         if HALF <= s.len() {
             let fed = feeder::feed(feeder::new(), chunk_in(s, at, end));
             let f = fed.feeder;
-            return find_on(s, f);
+            return find_on(rt, s, f);
         }
     }
     here

@@ -1,4 +1,6 @@
 // The listing program (document 01): a profile and then items on standard input, and a line for each item's answer on standard output.
+#![tactic(auto)]
+
 ghost use Rattle.std.specs.Prelude.{◌≡◌, ◌<◌};
 ghost use Rattle.listing.specs.State.{past, remaining};
 
@@ -106,7 +108,7 @@ fn emptied(s: State) -> State
 }
 
 // Fetches the item after the one that was answered. Before it waits for more input, and where a further line would have no room, the output is written; where that fails, no item is left.
-fn fetch(buf: &mut [u8], s: State) -> State
+fn fetch(rt: &HostRuntime, buf: &mut [u8], s: State) -> State
     ensures { remaining result < past s.number }
 {
     let at = input::sum(s.at, s.size);
@@ -116,8 +118,8 @@ fn fetch(buf: &mut [u8], s: State) -> State
         return at_place(s, here);
     }
     let t = emptied(s);
-    if output::flush(buf, s.filled) {
-        let place = input::find_item(buf, at, s.end);
+    if output::flush(rt, buf, s.filled) {
+        let place = input::find_item(rt, buf, at, s.end);
         at_place(t, place)
     } else {
         ended(t, 0)
@@ -125,8 +127,8 @@ fn fetch(buf: &mut [u8], s: State) -> State
 }
 
 // Reads the profile and stores the header. Refusal 2, with number 0, where the profile is cut short or malformed; none where it could not be read; else the first item is fetched.
-fn start(buf: &mut [u8]) -> State {
-    let place = input::find_profile(buf);
+fn start(rt: &HostRuntime, buf: &mut [u8]) -> State {
+    let place = input::find_profile(rt, buf);
     let found = place.found;
     let n = size_of(found);
     let s = State {
@@ -140,7 +142,7 @@ fn start(buf: &mut [u8]) -> State {
         more: false,
     };
     if is_profile(bytes::part_of(buf, 0, n)) {
-        fetch(buf, s)
+        fetch(rt, buf, s)
     } else {
         s
     }
@@ -155,38 +157,38 @@ fn profile_of(buf: &[u8], s: State) -> &[u8] {
 }
 
 // Stores the line of the item, and fetches the next one.
-fn advance(buf: &mut [u8], s: State, answer: Answer) -> State
+fn advance(rt: &HostRuntime, buf: &mut [u8], s: State, answer: Answer) -> State
     ensures { remaining result < past s.number }
 {
     let mut t = s;
     let printed = line::line(buf, s.filled, s.number, answer);
     t.filled = line::place_after(printed, s.filled);
-    fetch(buf, t)
+    fetch(rt, buf, t)
 }
 
 // Stores the line of the refusal that ended the listing, if there is one, and writes what is in the buffer.
-fn finish(buf: &mut [u8], s: State) {
+fn finish(rt: &HostRuntime, buf: &mut [u8], s: State) {
     if s.refusal == 0 {
-        output::flush(buf, s.filled);
+        output::flush(rt, buf, s.filled);
     } else {
         let printed = line::line(buf, s.filled, s.number, Answer::Refused(s.refusal));
-        output::flush(buf, line::place_after(printed, s.filled));
+        output::flush(rt, buf, line::place_after(printed, s.filled));
     }
 }
 
 // Owns the table, and lends it item by item. A fresh table is sound and stays so, so no item is checked for refusal 3.
-fn run(buf: &mut [u8]) {
+fn run(rt: &HostRuntime, buf: &mut [u8]) {
     let mut slots = slot::fresh();
-    let mut s = start(buf);
+    let mut s = start(rt, buf);
     while s.more {
         let a = feed::feed_sound(&mut slots, item_of(buf, s), profile_of(buf, s));
-        let next = advance(buf, s, a);
+        let next = advance(rt, buf, s, a);
         s = next;
     }
-    finish(buf, s);
+    finish(rt, buf, s);
 }
 
-fn main() {
-    let mut buf = io::large_buffer();
-    run(&mut buf);
+fn main(rt: HostRuntime) {
+    let mut buf = streams::large_buffer();
+    run(&rt, &mut buf);
 }
