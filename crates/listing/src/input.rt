@@ -46,7 +46,7 @@ fn has_failed(rt: &HostRuntime, got: &io::Result<usize>) -> bool {
 
 // One read to place `at` and behind it.
 fn read_to(rt: &HostRuntime, s: &mut [u8], at: usize) -> Arrived
-    requires begins { at ≤ 32768 }
+    requires within { at ≤ 32768 }
     requires room { 32768 ≤ length s.old }
     ensures begins { at ≤ result.end }
     ensures ends { result.end ≤ 32768 }
@@ -121,6 +121,7 @@ fn is_unfinished(t: Taken) -> bool
 }
 
 // The chunk is not the end of the input, and does not finish the item.
+#[tactic(auto, unfolding(crate::specs::Input::goes_on))]
 fn goes_on(f: Feeder, c: &[u8]) -> bool
     ensures { result ≡ goes_on f c.now }
 {

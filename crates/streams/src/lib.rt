@@ -2,6 +2,9 @@
 // A call that a signal interrupts before it moves a byte counts as one that failed: nothing is tried again.
 #![tactic(auto)]
 
+#[cfg(test)]
+mod tests;
+
 ghost use Rattle.std.specs.Prelude.{◌≡◌, ℕ, ◌≤◌, length, take, IsTrue};
 ghost use Rattle.std.specs.Io.KnownBytes.{Appends, Consumes};
 ghost use Rattle.io.specs.Digits.{IsDigitCount, last_digits};
