@@ -75,8 +75,7 @@ fn show_line(out: &mut Stdout, t: &[u8]) {
 // The end of the line that is at place a: its line feed, or the end of the text.
 fn line_end(t: &[u8], a: usize) -> usize
     requires { a ≤ length t.now }
-    ensures begins { a ≤ result }
-    ensures ends { result ≤ length t.now }
+    ensures { (a ≤ result) × (result ≤ length t.now) }
 {
     let mut i = a;
     while i < t.len() {

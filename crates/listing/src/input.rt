@@ -46,10 +46,8 @@ fn has_failed(rt: &HostRuntime, got: &io::Result<usize>) -> bool {
 
 // One read to place `at` and behind it.
 fn read_to(rt: &HostRuntime, s: &mut [u8], at: usize) -> Arrived
-    requires within { at ≤ 32768 }
-    requires room { 32768 ≤ length s.old }
-    ensures begins { at ≤ result.end }
-    ensures ends { result.end ≤ 32768 }
+    requires { (at ≤ 32768) × (32768 ≤ length s.old) }
+    ensures { (at ≤ result.end) × (result.end ≤ 32768) }
 {
     let got = rt.stdin().read(&mut s[at..HALF]);
     let failed = has_failed(rt, &got);
