@@ -12,7 +12,7 @@ use crate::paper::listing::frames;
 use crate::paper::record::{Part, Point};
 use crate::paper::table::{self, Entry, ENTRIES};
 use crate::texts;
-use std::path::{Path, PathBuf};
+use std::path::Path;
 use std::process::{self, Stdio};
 use std::time::Duration;
 use std::{env, fs, io, iter};
@@ -168,11 +168,8 @@ impl Run {
 }
 
 const OPEN: [u32; 3] = [1, 32, 64];
-
-/// Where a checkout has the program of this name.
-fn built(checkout: &str, name: &str) -> PathBuf {
-    Path::new(checkout).join(format!("crates/{name}/out/{name}"))
-}
+/// Where a checkout has its programs.
+const BUILT: &str = "target/bin";
 
 /// How much is measured.
 struct Extent {
@@ -204,7 +201,7 @@ pub struct Paths<'a> {
 
 /// Measures, and prints tables in Markdown.
 pub fn run(paths: &Paths, quick: bool) -> io::Result<()> {
-    let before = |name| Some(built(paths.before?, name));
+    let before = |name| Some(Path::new(paths.before?).join(BUILT).join(name));
     let listings = programs::with_task(paths.listing, before("listing"), "listing")?;
     let feeders = programs::with_task(paths.bench, before("bench"), "feed-items")?;
     let checkers = programs::with_task(paths.bench, None, "check-triggers")?;

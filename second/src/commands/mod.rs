@@ -83,8 +83,8 @@ const BEFORE: arguments::Choice = arguments::Choice {
     name: "--before",
     value: Some(file("DIR")),
     does: "measures the programs of another checkout too, in turn with these: \
-        DIR/crates/listing/out/listing and DIR/crates/bench/out/bench, which are built \
-        already; if they do not know terminating calls, these are left out",
+        DIR/target/bin/listing and DIR/target/bin/bench, which are built already; if \
+        they do not know terminating calls, these are left out",
 };
 
 const TERMINATING: arguments::Choice = arguments::Choice {
