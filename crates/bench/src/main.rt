@@ -6,11 +6,11 @@
 
 mod trigger;
 
-ghost use Rattle.std.specs.Prelude.{◌<◌};
-
 use call::answers::Answer;
-use forms::bytes;
-use std::io::Stdout;
+use forms::comparison::Comparison;
+use forms::{bytes, comparison};
+use std::io;
+use std::io::{Stdout, Write};
 use table::{feed, slot};
 use trigger::Checked;
 
@@ -23,153 +23,108 @@ const LAST_FIRST: u8 = 2;
 // The profile stands behind the five bytes of the head.
 const HEAD: usize = 5;
 
-// The next item has `size` bytes at place `at`; `left` are still to be fed, and `refused` were refused.
+// The bytes of a form, which begins with its length, at the start of s.
+fn form_in(s: &[u8]) -> &[u8] {
+    bytes::part_of(s, 0, bytes::number::<2>(s))
+}
+
+// What to feed, and how often: the items still to come before the first one comes again are `rest`.
 #[derive(Clone, Copy)]
-pub struct State {
-    pub at: usize,
-    pub size: usize,
-    pub left: usize,
-    pub refused: u64,
+pub struct Input<'a> {
+    pub profile: &'a [u8],
+    pub items: &'a [u8],
+    pub rest: &'a [u8],
+    pub total: usize,
 }
 
-fn size_at(buf: &[u8], at: usize) -> usize {
-    bytes::number2(bytes::from(buf, at))
-}
-
-// a + b. (Both are small here: tested, the sum needs no `requires`.)
-pub(crate) fn sum(a: usize, b: usize) -> usize {
-    if b <= usize::MAX - a { a + b } else { a }
-}
-
-// The place of the first item.
-fn first_place(buf: &[u8]) -> usize {
-    sum(HEAD, size_at(buf, HEAD))
-}
-
-// How many items are to be fed, or checks to be made.
-fn total(buf: &[u8]) -> usize {
-    bytes::number2(bytes::from(buf, 1)) * 65536 + bytes::number2(bytes::from(buf, 3))
-}
-
-fn start(buf: &[u8]) -> State {
-    let at = first_place(buf);
-    State {
-        at,
-        size: size_at(buf, at),
-        left: total(buf),
-        refused: 0,
-    }
-}
-
-// The place of the item after the one that was answered.
-fn next_place(buf: &[u8], at: usize, size: usize) -> usize {
-    let next = sum(at, size);
-    if next < buf.len() {
-        next
-    } else {
-        first_place(buf)
-    }
-}
-
-fn counted(refused: u64, a: Answer) -> u64 {
-    match a {
-        Answer::Accepted(_) => refused,
-        Answer::Refused(_) => {
-            if refused < u64::MAX {
-                refused + 1
-            } else {
-                refused
-            }
+impl<'a> Input<'a> {
+    fn new(buf: &'a [u8]) -> Input<'a> {
+        let profile = form_in(bytes::from(buf, HEAD));
+        let items = bytes::from(buf, HEAD + bytes::number::<2>(bytes::from(buf, HEAD)));
+        Input {
+            profile,
+            items,
+            rest: items,
+            total: bytes::number::<4>(bytes::from(buf, 1)),
         }
     }
+
+    // The next item.
+    fn next_item(&mut self) -> &'a [u8] {
+        let item = form_in(self.rest);
+        self.rest = bytes::from(self.rest, bytes::number::<2>(self.rest));
+        if self.rest.is_empty() {
+            self.rest = self.items;
+        }
+        item
+    }
 }
 
-// Counts the answer, and goes on to the next item.
-fn advance(buf: &[u8], s: State, a: Answer) -> State
-    requires { 0 < s.left }
-    ensures { result.left < s.left }
+// How many of the items are refused.
+fn count_refused<F: FnMut(&[u8]) -> Answer>(mut input: Input<'_>, mut feed: F) -> u64
+    requires { F.IsAlwaysCallable feed }
 {
-    let at = next_place(buf, s.at, s.size);
-    State {
-        at,
-        size: size_at(buf, at),
-        left: s.left - 1,
-        refused: counted(s.refused, a),
+    let mut refused: u64 = 0;
+    for _ in 0..input.total {
+        if feed(input.next_item()).is_err() {
+            refused = refused.saturating_add(1);
+        }
     }
-}
-
-fn item_of(buf: &[u8], s: State) -> &[u8] {
-    bytes::part_of(buf, s.at, s.size)
-}
-
-fn profile_of(buf: &[u8]) -> &[u8] {
-    bytes::part_of(buf, HEAD, size_at(buf, HEAD))
-}
-
-// Owns the table, and lends it item by item. A fresh table is sound and stays so.
-fn run(buf: &[u8], checked: bool) -> State {
-    let profile = profile_of(buf);
-    let mut slots = slot::fresh();
-    let mut s = start(buf);
-    while 0 < s.left {
-        let a = if checked {
-            feed::feed(&mut slots, item_of(buf, s), profile)
-        } else {
-            feed::feed_sound(&mut slots, item_of(buf, s), profile)
-        };
-        let next = advance(buf, s, a);
-        s = next;
-    }
-    s
+    refused
 }
 
 // The sums of all checks.
-fn check_all(buf: &[u8], last_first: bool) -> Checked {
-    let profile = profile_of(buf);
-    let mut left = total(buf);
-    let mut at = first_place(buf);
-    let mut matched: usize = 0;
-    let mut pairs: usize = 0;
-    while 0 < left {
-        let size = size_at(buf, at);
-        let c = trigger::check(profile, bytes::part_of(buf, at, size), last_first);
-        matched = sum(matched, c.matched);
-        pairs = sum(pairs, c.pairs);
-        at = next_place(buf, at, size);
-        left -= 1;
+fn check_all<F: Fn(&[u8], &[u8]) -> Comparison>(mut input: Input<'_>, compare: F) -> Checked
+    requires { F.IsAlwaysCallable compare }
+{
+    let mut all = Checked {
+        matched: 0,
+        pairs: 0,
+    };
+    for _ in 0..input.total {
+        let c = trigger::check(input.profile, input.next_item(), &compare);
+        all.matched = all.matched.saturating_add(c.matched);
+        all.pairs = all.pairs.saturating_add(c.pairs);
     }
-    Checked { matched, pairs }
+    all
 }
 
-fn write_next(out: &mut Stdout, n: u64) {
-    streams::write_all(out, b" ");
-    streams::write_decimal(out, n);
+fn write_fed(out: &mut Stdout, total: usize, refused: u64) -> io::Result<()> {
+    writeln!(out, "{total} {refused}")
 }
 
-fn report_fed(out: &mut Stdout, buf: &[u8], checked: bool) {
-    let s = run(buf, checked);
-    write_next(out, s.refused);
+fn write_checked(out: &mut Stdout, total: usize, c: Checked) -> io::Result<()> {
+    writeln!(out, "{total} {} {}", c.matched, c.pairs)
 }
 
-fn report_checked(out: &mut Stdout, buf: &[u8], last_first: bool) {
-    let c = check_all(buf, last_first);
-    write_next(out, c.matched as u64);
-    write_next(out, c.pairs as u64);
-}
-
-fn report(out: &mut Stdout, buf: &[u8]) {
-    let what = bytes::at(buf, 0);
-    streams::write_decimal(out, total(buf) as u64);
-    if what <= FEED_SOUND {
-        report_fed(out, buf, what == FEED);
-    } else {
-        report_checked(out, buf, what == LAST_FIRST);
+// The table is fresh, and so sound, and stays so.
+fn report(out: &mut Stdout, buf: &[u8]) -> io::Result<()> {
+    let input = Input::new(buf);
+    let mut slots = slot::fresh();
+    match bytes::at(buf, 0) {
+        FEED => {
+            let refused = count_refused(input, |item| feed::feed(&mut slots, item, input.profile));
+            write_fed(out, input.total, refused)
+        }
+        FEED_SOUND => {
+            let refused = count_refused(
+                input,
+                |item| feed::feed_sound(&mut slots, item, input.profile),
+            );
+            write_fed(out, input.total, refused)
+        }
+        LAST_FIRST => write_checked(out, input.total, check_all(input, comparison::compare)),
+        _ => write_checked(
+            out,
+            input.total,
+            check_all(input, trigger::compare_from_the_front),
+        ),
     }
-    streams::write_all(out, b"\n");
 }
 
+// A write that fails goes unsaid: the output then lacks a part.
 fn main(rt: HostRuntime) {
     let mut buf = streams::large_buffer();
     let n = streams::read_full(&mut rt.stdin(), &mut buf);
-    report(&mut rt.stdout(), &buf[..n]);
+    let _ = report(&mut rt.stdout(), &buf[..n]);
 }

@@ -1,8 +1,7 @@
 // Trigger checks: a Setup's dialled number against the stored numbers of a profile, with the digit pairs that are compared.
 // Digits are compared by the engine's comparison, the last one first (document 02, T-03), or all from the front: the old order with the new count, so that nothing but the order differs.
-use crate::sum;
 use forms::comparison::Comparison;
-use forms::{bytes, comparison, profile};
+use forms::{bytes, profile};
 
 // Where a Setup has its nature, and its digit count with the digits behind it.
 const NATURE: usize = 14;
@@ -21,58 +20,46 @@ pub struct Checked {
     pub pairs: usize,
 }
 
-fn compare_from_the_front(stored: &[u8], dialled: &[u8]) -> Comparison {
+pub(crate) fn compare_from_the_front(stored: &[u8], dialled: &[u8]) -> Comparison {
     if dialled.len() < stored.len() {
-        return comparison::not_leading(0);
+        return Comparison {
+            leads: false,
+            pairs: 0,
+        };
     }
-    let mut i = 0;
-    while i < stored.len() {
-        if stored[i] != dialled[i] {
-            return comparison::not_leading(i + 1);
-        }
-        i += 1;
+    match stored.iter().zip(dialled).position(|(a, b)| a != b) {
+        Some(i) => Comparison {
+            leads: false,
+            pairs: i + 1,
+        },
+        None => Comparison {
+            leads: true,
+            pairs: stored.len(),
+        },
     }
-    comparison::leading(i)
 }
 
-// The digits of the stored number at place `at`; where its nature is another one, none are compared.
-fn compare_at(
+// The stored numbers in their order, until one matches. Where a stored number's nature is another one, no digits are compared.
+pub(crate) fn check<F: Fn(&[u8], &[u8]) -> Comparison>(
     profile: &[u8],
-    at: usize,
-    nature: u8,
-    dialled: &[u8],
-    last_first: bool,
-) -> Comparison {
-    let stored = profile::list_at(profile, sum(at, 1));
-    if bytes::at(profile, at) != nature {
-        return comparison::not_leading(0);
-    }
-    if last_first {
-        comparison::compare(stored, dialled)
-    } else {
-        compare_from_the_front(stored, dialled)
-    }
-}
-
-fn place_after(profile: &[u8], at: usize) -> usize {
-    sum(at, 2 + bytes::at(profile, sum(at, 1)) as usize)
-}
-
-// The stored numbers in their order, until one matches.
-pub(crate) fn check(profile: &[u8], setup: &[u8], last_first: bool) -> Checked {
+    setup: &[u8],
+    compare: F,
+) -> Checked
+    requires { F.IsAlwaysCallable compare }
+{
     let nature = bytes::at(setup, NATURE);
     let dialled = profile::list_at(setup, DIALLED);
-    let mut left = bytes::at(profile, COUNT);
-    let mut at = FIRST;
+    let mut rest = bytes::from(profile, FIRST);
     let mut pairs: usize = 0;
-    while 0 < left {
-        let c = compare_at(profile, at, nature, dialled, last_first);
-        pairs = sum(pairs, c.pairs);
-        if c.leads {
-            return Checked { matched: 1, pairs };
+    for _ in 0..bytes::at(profile, COUNT) {
+        if bytes::at(rest, 0) == nature {
+            let c = compare(profile::list_at(rest, 1), dialled);
+            pairs = pairs.saturating_add(c.pairs);
+            if c.leads {
+                return Checked { matched: 1, pairs };
+            }
         }
-        at = place_after(profile, at);
-        left -= 1;
+        rest = bytes::from(rest, 2 + usize::from(bytes::at(rest, 1)));
     }
     Checked { matched: 0, pairs }
 }

@@ -8,9 +8,11 @@ use native.Mathlib.Omega.{arith}
 use lib.Dec.{ltb}
 use lib.ListN.{length, get_or}
 use borrow.Author.Tests.{not-false}
+use Rattle.std.specs.Prelude.{Option, Some, None, Ok, Err}
+use Rattle.forms.specs.Refusal.{number_of as refusal_number}
 use Rattle.forms.specs.Item.{item_in_range}
 use Rattle.forms.specs.Units.{is_clock_reading}
-use Rattle.call.specs.Types.{Item, Tenths, Leg, PointSet, Role, Stage, Mode, Clock, Charge, LegState, Arming, Hold, Record, Relationship, ChargeReport, Reports, Deadline, Answer, Stepped, Check, Event, Kind}
+use Rattle.call.specs.Types.{Item, Tenths, Leg, PointSet, Role, Stage, Mode, Clock, Charge, LegState, Arming, Hold, Record, Refusal, Relationship, Reports, Answer, Stepped, Check, Event, Kind}
 use Rattle.forms.specs.declared.item.Leg.TheVariants.{One, Two}
 use Rattle.forms.specs.declared.item.Body.TheVariants as body
 use Rattle.call.specs.declared.roles.Role.TheVariants as role
@@ -20,11 +22,7 @@ use Rattle.call.specs.declared.record.Hold.TheVariants as hold
 use Rattle.call.specs.declared.record.Presence.TheVariants.{Absent}
 use Rattle.call.specs.declared.record.Clock.TheVariants as clock
 use Rattle.call.specs.declared.relationship.Relationship.TheVariants as relationship
-use Rattle.call.specs.declared.charging.ChargeReport.TheVariants as due
-use Rattle.call.specs.declared.answers.Report.TheVariants as report
-use Rattle.call.specs.declared.answers.Deadline.TheVariants as deadline
-use Rattle.call.specs.declared.answers.Answer.TheVariants.{Accepted, Refused}
-use Rattle.call.specs.declared.refusals.Check.TheVariants.{Pass, Fail}
+use Rattle.forms.specs.declared.refusal.Refusal.TheVariants.{CallOpen, Impossible}
 use Rattle.call.specs.declared.events.Event.TheVariants as event
 use Rattle.call.specs.declared.kind.Kind.TheVariants as kind
 use Rattle.forms.specs.Profile.{is_release}
@@ -73,9 +71,9 @@ none_exactly r =
 -- ---- charging
 
 -- the time in a charge's report, 0 where there is none
-abbrev pub elapsed_in : ChargeReport → ℕ
-elapsed_in due.None = 0
-elapsed_in (due.Elapsed t) = t.0
+abbrev pub elapsed_in : Option Tenths → ℕ
+elapsed_in None = 0
+elapsed_in (Some t) = t.0
 
 -- an elapsed time never exceeds its period
 pub elapsed_within : (t : Tenths) (c : Charge) → elapsed_in (report_of t c) ≤ c.period.0
@@ -133,11 +131,11 @@ routed_keeps_none dp r t = refl
 abbrev pub rising : List Row → Bool
 rising [] = true
 rising (x ∷ []) = true
-rising (x ∷ y ∷ l) = ltb x.number y.number && rising (y ∷ l)
+rising (x ∷ y ∷ l) = ltb (refusal_number x.refusal) (refusal_number y.refusal) && rising (y ∷ l)
 
 -- "Checked in this order": the numbers of the rows that an item meets rise, whatever it asks
 pub rows_rise : (dp : PointSet) (r : Record) (k : Kind) (t : Tenths) (rest : List ℕ) → rising (row1_time t ∷ rows_of dp r k t rest) ≡ true
-rows_rise dp r (kind.Setup b nature service forwarded count) t rest = refl
+rows_rise dp r (kind.Setup s) t rest = refl
 rows_rise dp r (kind.Event e) t rest = refl
 rows_rise dp r (kind.PeriodOver l) t rest = refl
 rows_rise dp r (kind.RequestReport n) t rest = refl
@@ -149,9 +147,9 @@ rows_rise dp r kind.ActivityTest t rest = refl
 rows_rise dp r kind.Abort t rest = refl
 
 -- an accepted item passed the rows
-pub not_refused : (c : Check) (r : Record) (s : Stepped) → is_accepted (guarded c r s).answer ≡ true → c ≡ Pass
-not_refused Pass r s h = refl
-not_refused (Fail n) r s h = absurd (false≢true h)
+pub not_refused : (c : Check) (r : Record) (s : Stepped) → is_accepted (guarded c r s).answer ≡ true → c ≡ Ok tt
+not_refused (Ok tt) r s h = refl
+not_refused (Err n) r s h = absurd (false≢true h)
 
 -- ---- armings
 
@@ -170,13 +168,13 @@ unarmed_roles a ten = unarmed_below 10 a (omega (arith, ten))
 -- ---- a lost leg
 
 abbrev pub is_over : Answer → Bool
-is_over (Accepted o) = o.over
-is_over (Refused n) = false
+is_over (Ok o) = o.over
+is_over (Err n) = false
 
 -- a refusal carries no reports
 abbrev pub reports_of : Answer → Reports
-reports_of (Accepted o) = o.reports
-reports_of (Refused n) = silent
+reports_of (Ok o) = o.reports
+reports_of (Err n) = silent
 
 -- of a choice with an end, what is not over is the other
 goes_on_lem : (b : Bool) (x y : Stepped) → is_over x.answer ≡ true → is_over (cond b x y).answer ≡ false → cond b x y ≡ y
@@ -220,7 +218,7 @@ module _ (dp : PointSet) (r : Record) (i : Item) (rest : List ℕ) (e : Event) (
   abbrev rows : List Row
   rows = row1_time i.time ∷ rows_of dp r (kind.Event e) i.time rest
 
-  no_refusal : first_of rows ≡ Pass
+  no_refusal : first_of rows ≡ Ok tt
   unfolding respond_in
   no_refusal = not_refused (first_of rows) r (served dp r (kind.Event e) i.time rest) (rw is-event at accepted)
 
@@ -297,7 +295,7 @@ held_goes_on m earlier h = rw (h, and-false (not (is_mode m mode.Interrupted) &&
 
 -- Continue ends a held call whose leg 2 is absent: held means control, so row 8 does not apply either
 continue_ends : (dp : PointSet) (s : Record) (j : Item) (more : List ℕ) → is_held s.hold ≡ true → s.leg2 ≡ Absent → j.body ≡ body.Continue → is_clock_reading j.time ≡ true → ltb j.time.0 s.last.0 ≡ false
-    → respond_in dp s j more ≡ ended s report.None j.time
+    → respond_in dp s j more ≡ ended s None j.time
 unfolding respond_in continued
 continue_ends dp s j more held gone is-continue clock late = rw (is-continue, clock, late, held, gone, and-false (is_present s.leg1))
 
@@ -310,7 +308,7 @@ clear_accepted dp fit r i rest cause is-clear clock late =
     let can_exactly : can_meet dp r role.Disconnect2 ≡ (is_active r.stage && is_present r.leg2) = rw ((disconnect_point dp fit).0, (disconnect_point dp fit).1, and-true (is_active r.stage)) in
     met_exactly ∙ can_exactly
   where
-    go : (b : Bool) → is_accepted (guarded (cond (not b) (Fail 12) Pass) r (met dp r role.Disconnect2 i.time)).answer ≡ b
+    go : (b : Bool) → is_accepted (guarded (cond (not b) (Err Impossible) (Ok tt)) r (met dp r role.Disconnect2 i.time)).answer ≡ b
     go true = on_cond (λ (s : Stepped). is_accepted s.answer ≡ true) (ends_call role.Disconnect2 (mode_at role.Disconnect2 r.armings) r.hold) _ _ refl refl
     go false = refl
 
@@ -350,13 +348,13 @@ module _ (dp : PointSet) (r : Record) (i : Item) (rest : List ℕ) (cause : ℕ)
     cleared_armings q = ap (λ s. mode_at q s.armings) next_cleared ∙ lost_leg dp fit role.Disconnect2 q Two r.armings (disconnect_leg dp fit Two)
 
     -- reported by its mode; "its charge is reported", and no other
-    pub cleared_reports : reports_of cleared.answer ≡ reports (event_report dp role.Disconnect2 disconnect) due.None (report_of i.time (leg_at Two r).charge)
+    pub cleared_reports : reports_of cleared.answer ≡ reports (event_report dp role.Disconnect2 disconnect) None (report_of i.time (leg_at Two r).charge)
     unfolding met
     cleared_reports =
         ap (λ s. reports_of s.answer) (event_met dp r i rest (event.Clear Two) (ap kind_of is-clear) accepted) ∙ rw (held_goes_on disconnect r.hold held, disconnect_leg dp fit One, disconnect_leg dp fit Two)
 
     -- "Continue then ends the call": an item in time, which no row refuses
-    pub then_over : (j : Item) (more : List ℕ) → j.body ≡ body.Continue → is_clock_reading j.time ≡ true → ltb j.time.0 cleared.next.last.0 ≡ false → respond_in dp cleared.next j more ≡ ended cleared.next report.None j.time
+    pub then_over : (j : Item) (more : List ℕ) → j.body ≡ body.Continue → is_clock_reading j.time ≡ true → ltb j.time.0 cleared.next.last.0 ≡ false → respond_in dp cleared.next j more ≡ ended cleared.next None j.time
     then_over j more = let gone : cleared.next.leg2 ≡ Absent = ap (λ (s : LegState). s.presence) cleared_legs.0 in continue_ends dp cleared.next j more stays_held.1 gone
 
 -- ---- what an item does to its call: it is refused, meets a role, ends the call, or leaves a record
@@ -368,19 +366,19 @@ module _ (dp : PointSet) (r : Record) where
 
   -- an event is reported only where a role is met
   pub data Does : Stepped → Type 0 where
-    refuses : (n : ℕ) → Does (refused r n)
+    refuses : (n : Refusal) → Does (refused r n)
     meets : (p : Role) (t : Tenths) → can_meet dp r p ≡ true → Does (met dp r p t)
-    ends : (s : Record) (t : Tenths) → Does (ended s report.None t)
-    goes : (next : Record) (told : Reports) (d : Deadline) → told.event ≡ report.None → Follows next → Does (goes_on dp next told d)
+    ends : (s : Record) (t : Tenths) → Does (ended s None t)
+    goes : (next : Record) (told : Reports) (d : Option Tenths) → told.event ≡ None → Follows next → Does (goes_on dp next told d)
 
   either : (b : Bool) (x y : Stepped) → Does x → Does y → Does (cond b x y)
   either = on_cond Does
 
   quietly_does : (next : Record) → Follows next → Does (quietly dp next)
-  quietly_does next f = goes next silent deadline.None refl f
+  quietly_does next f = goes next silent None refl f
 
   routed_does : (s : Record) (t : Tenths) → Follows s → Does (routed dp s t)
-  routed_does s t f = goes (armed_as s s.armings no_timer) silent (after t (route_timer s)) refl f
+  routed_does s t f = goes (armed_as s s.armings no_timer) silent (Some (after t (route_timer s))) refl f
 
   -- the hold ends
   freed : (s : Record) (t : Tenths) → s.bcsm ≡ r.bcsm → Follows (resumed s t)
@@ -397,15 +395,15 @@ module _ (dp : PointSet) (r : Record) where
   charged_follows One c t = (refl, λ h. refl)
   charged_follows Two c t = (refl, λ h. refl)
 
-  no_event : (l : Leg) (c : ChargeReport) → (report_on l c).event ≡ report.None
+  no_event : (l : Leg) (c : Option Tenths) → (report_on l c).event ≡ None
   no_event One c = refl
   no_event Two c = refl
 
-  served_does : (k : Kind) (t : Tenths) (rest : List ℕ) → first_of (rows_of dp r k t rest) ≡ Pass → Does (served dp r k t rest)
+  served_does : (k : Kind) (t : Tenths) (rest : List ℕ) → first_of (rows_of dp r k t rest) ≡ Ok tt → Does (served dp r k t rest)
   unfolding aborted
-  served_does (kind.Setup b n s w c) t rest e = refuses 5
+  served_does (kind.Setup s) t rest e = refuses CallOpen
   served_does (kind.Event x) t rest e = let p = role_of x r.stage in meets p t (not-false (can_meet dp r p) (no_row (rows_of dp r (kind.Event x) t rest) e 2))
-  served_does (kind.PeriodOver l) t rest e = let c = report_of t (leg_at l r).charge in goes (charged r l no_charge t) (report_on l c) deadline.None (no_event l c) (charged_follows l no_charge t)
+  served_does (kind.PeriodOver l) t rest e = let c = report_of t (leg_at l r).charge in goes (charged r l no_charge t) (report_on l c) None (no_event l c) (charged_follows l no_charge t)
   served_does (kind.RequestReport n) t rest e =
       let es = entries_of n rest in
       quietly_does (armed_with dp (timed r t) es) (entries_keep_kind dp (timed r t) es, λ h. armed_keeps dp (λ s. s.hold) (λ s a k. refl) es (timed r t))
@@ -423,7 +421,7 @@ module _ (dp : PointSet) (r : Record) where
   responds i rest =
       let k = kind_of i.body in
       let rows = rows_of dp r k i.time rest in
-      on_guard Does (first_of (row1_time i.time ∷ rows)) r (served dp r k i.time rest) refuses (λ e. served_does k i.time rest (passes (row1_time i.time).applies 1 (first_of rows) e).1)
+      on_guard Does (first_of (row1_time i.time ∷ rows)) r (served dp r k i.time rest) refuses (λ e. served_does k i.time rest (passes (row1_time i.time).applies (row1_time i.time).refusal (first_of rows) e).1)
 
 -- ---- what remains: "A refusal leaves what is kept", and a call that is over leaves a blank record
 

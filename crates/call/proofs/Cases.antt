@@ -5,23 +5,20 @@ use Prim.Native.String.{String}
 use mathlib.Core.Path.{◌≡◌, refl}
 use mathlib.Core.Bool.{Bool, true, false}
 use mathlib.Core.List.{List, [], ◌∷◌, ◌++◌, map, flatten}
-use mathlib.Core.Option.{Option, none, some}
 use lib.ListN.{length, set}
+use Rattle.std.specs.Prelude.{Option, Some, None, Ok, Err}
 use Rattle.forms.specs.Bytes.{all, contains, leads, same}
 use Rattle.forms.specs.Fields.{leg_number}
-use Rattle.forms.specs.Item.{item_bytes, item_in_range, rest_at, body_from, body_of, item_of, is_item, read_item, entry_bytes, entry_of}
+use Rattle.forms.specs.Item.{setup_of, item_bytes, item_in_range, rest_at, body_from, body_of, item_of, is_item, read_item, entry_bytes, entry_of}
 use Rattle.forms.specs.Profile.{fields_of, profile_bytes, profile_in_range, numbers_at, numbers_end, view_at, profile_of, is_profile, some_matches}
 use Rattle.forms.proofs.Cases.{p2}
 use Rattle.forms.specs.declared.item.Bcsm.TheVariants.{Originating, Terminating}
 use Rattle.forms.specs.declared.item.Leg.TheVariants.{One, Two}
 use Rattle.forms.specs.declared.item.Body.TheVariants as B
-use Rattle.call.specs.Types.{Bcsm, Body, Leg, Point, Suspension, Report, Reports, ChargeReport, Deadline, Relationship, Record, Answer}
-use Rattle.call.specs.declared.answers.Suspension.TheVariants as S
+use Rattle.call.specs.Types.{Bcsm, Body, Leg, Point, Tenths, Report, Reports, Relationship, Record, Answer}
 use Rattle.call.specs.declared.relationship.Relationship.TheVariants as R
-use Rattle.call.specs.declared.answers.Report.TheVariants.{None, Interrupting, Notification}
-use Rattle.call.specs.declared.charging.ChargeReport.TheVariants as C
-use Rattle.call.specs.declared.answers.Deadline.TheVariants as D
-use Rattle.call.specs.declared.answers.Answer.TheVariants.{Accepted, Refused}
+use Rattle.call.specs.declared.answers.Report.TheVariants.{Interrupting, Notification}
+use Rattle.forms.specs.declared.refusal.Refusal.TheVariants.{MalformedItem, MalformedProfile, CallNotOpen, CallOpen, EarlierTime, NoControl, Held, NotHeld, BadEntry, Impossible, ChargePending, PeriodNotOver}
 use Rattle.call.specs.Armings.{some_armed}
 use Rattle.call.specs.Answers.{Pair, EventReport, Values, refusal, accepted, values_of, reports, silent}
 use Rattle.call.specs.Trigger.{triggers}
@@ -46,7 +43,7 @@ kept_by k [] = k
 kept_by k (f ∷ fs) = kept_by (alone_step k f.item f.profile).1 fs
 
 abbrev pub last_answer : Case → Answer
-last_answer c = (alone_step (kept_by none c.before) c.last.item c.last.profile).0
+last_answer c = (alone_step (kept_by None c.before) c.last.item c.last.profile).0
 
 -- items one after the other, each with its answer: a case for each
 infixr 70 ◌▸◌
@@ -93,11 +90,11 @@ abbrev go : Input
 go = item 1000 B.Continue
 
 abbrev setup : Bcsm → List ℕ → List ℕ → Input
-setup b profile digits = item_with profile 1000 (B.Setup b 4 0 false (length digits)) digits
+setup b profile digits = item_with profile 1000 (B.Setup (setup_of b 4 0 false (length digits))) digits
 
 -- to 4, of a service and forwarded or not
 abbrev setup_for : Bcsm → List ℕ → ℕ → Bool → Input
-setup_for b profile service forwarded = item_with profile 1000 (B.Setup b 4 service forwarded 1) (4 ∷ [])
+setup_for b profile service forwarded = item_with profile 1000 (B.Setup (setup_of b 4 service forwarded 1)) (4 ∷ [])
 
 abbrev connect : ℕ → Input
 connect t = item_with plain t (B.Connect 4 2) (4 ∷ 6 ∷ [])
@@ -128,21 +125,21 @@ number ╱ leg = record { leg = leg; number = number }
 abbrev in_mode : Point → ℕ → List ℕ
 in_mode q mode = entry q.number (leg_number q.leg) mode 0
 
-abbrev ok : Relationship → Suspension → Reports → Deadline → Bool → Answer
-ok relationship suspension reports deadline over = Accepted (record { relationship = relationship; suspension = suspension; reports = reports; deadline = deadline; over = over })
+abbrev ok : Relationship → Option Point → Reports → Option Tenths → Bool → Answer
+ok relationship suspension reports deadline over = Ok (record { relationship = relationship; suspension = suspension; reports = reports; deadline = deadline; over = over })
 
-abbrev elapsed : ℕ → ChargeReport
-elapsed n = C.Elapsed (record { 0 = n })
+abbrev elapsed : ℕ → Option Tenths
+elapsed n = Some (record { 0 = n })
 
 -- "ok control 2 r2/1", "ok control 2", "ok control 6 r6/2"
-abbrev says : Relationship → Suspension → Report → Answer
-says relationship suspension event = ok relationship suspension (reports event C.None C.None) D.None false
+abbrev says : Relationship → Option Point → Option Report → Answer
+says relationship suspension event = ok relationship suspension (reports event None None) None false
 
 abbrev interrupts : Point → Answer
-interrupts q = says R.Control (S.At q) (Interrupting q)
+interrupts q = says R.Control (Some q) (Some (Interrupting q))
 
 abbrev stays : Point → Answer
-stays q = says R.Control (S.At q) None
+stays q = says R.Control (Some q) None
 
 -- "held at point 2 and an interrupting report for 2, leg 1"; T-04: "hold and report are then at 12, leg 1"
 abbrev trigger : Bcsm → Point
@@ -160,17 +157,17 @@ at12 = stays (12 ╱ One)
 
 -- "ok control - d1300"
 abbrev routes : Relationship → ℕ → Answer
-routes relationship t = ok relationship S.None silent (D.At (record { 0 = t })) false
+routes relationship t = ok relationship None silent (Some (record { 0 = t })) false
 
 -- "ok none - c1=250 over"; "ok none - c2=600", "ok none - c2=123 over"; "ok none - n10/1 over"
 abbrev bills1 : ℕ → Answer
-bills1 n = ok R.None S.None (reports None (elapsed n) C.None) D.None true
+bills1 n = ok R.None None (reports None (elapsed n) None) None true
 
 abbrev bills2 : ℕ → Bool → Answer
-bills2 n over = ok R.None S.None (reports None C.None (elapsed n)) D.None over
+bills2 n over = ok R.None None (reports None None (elapsed n)) None over
 
-abbrev ends : Report → Answer
-ends event = ok R.None S.None (reports event C.None C.None) D.None true
+abbrev ends : Option Report → Answer
+ends event = ok R.None None (reports event None None) None true
 
 -- the values of answers, as the paper has them: "ok control 2 r2/1", "ok monitor - c1=100 d1300", "ok none - n10/1 c2=123 over", "refused 7"
 abbrev pair : ℕ → ℕ → Pair
@@ -182,10 +179,10 @@ told relationship suspended event charge1 charge2 deadline over =
 
 pub values :
     map values_of
-    (triggered ∷ ok R.Monitor S.None (reports None (elapsed 100) C.None) (D.At (record { 0 = 1300 })) false ∷ ok R.None S.None (reports (Notification (10 ╱ One)) C.None (elapsed 123)) D.None true ∷ Refused 7 ∷ [])
-    ≡ told "control" (some (pair 2 1)) (some (record { interrupting = true; met = pair 2 1 })) none none none false
-    ∷ told "monitor" none none (some 100) none (some 1300) false
-    ∷ told "none" none (some (record { interrupting = false; met = pair 10 1 })) none (some 123) none true
+    (triggered ∷ ok R.Monitor None (reports None (elapsed 100) None) (Some (record { 0 = 1300 })) false ∷ ok R.None None (reports (Some (Notification (10 ╱ One))) None (elapsed 123)) None true ∷ Err EarlierTime ∷ [])
+    ≡ told "control" (Some (pair 2 1)) (Some (record { interrupting = true; met = pair 2 1 })) None None None false
+    ∷ told "monitor" None None (Some 100) None (Some 1300) false
+    ∷ told "none" None (Some (record { interrupting = false; met = pair 10 1 })) None (Some 123) None true
     ∷ refusal 7
     ∷ []
 values = refl
@@ -210,7 +207,7 @@ answered b = granted b ++ (item 5000 B.Answer ∷ [])
 
 -- P4 Period over at 5599 is 14, at 5600 reports 600
 abbrev p4 : Bcsm → List Case
-p4 b = along (answered b) (item 5599 (B.PeriodOver Two) ▸ Refused 14 ∷ item 5600 (B.PeriodOver Two) ▸ bills2 600 false ∷ [])
+p4 b = along (answered b) (item 5599 (B.PeriodOver Two) ▸ Err PeriodNotOver ∷ item 5600 (B.PeriodOver Two) ▸ bills2 600 false ∷ [])
 
 -- P5 Clear of leg 2 at 5123 reports 123, at 5700 reports 600
 abbrev p5 : Bcsm → List Case
@@ -220,12 +217,12 @@ p5 b = along (answered b) (clear 5123 Two ▸ bills2 123 true ∷ []) ++ along (
 abbrev p9 : Bcsm → ℕ → ℕ → List Case
 p9 b busy abandon = along (begun b)
     (arm 1000 (entry busy 2 0 0 ∷ entry abandon 1 1 0 ∷ []) ▸ stays (trigger b) ∷ go ▸ routes R.Control 2200
-    ∷ item 2000 (B.Busy 17) ▸ interrupts (busy ╱ Two) ∷ clear 2010 One ▸ ends (Notification (abandon ╱ One)) ∷ [])
+    ∷ item 2000 (B.Busy 17) ▸ interrupts (busy ╱ Two) ∷ clear 2010 One ▸ ends (Some (Notification (abandon ╱ One))) ∷ [])
 
 -- P10 timer 2047 accepted, 2048 is 11
 abbrev p10 : Bcsm → ℕ → List Case
 p10 b no_answer = along (begun b)
-    (arm 1000 (entry no_answer 2 0 2048 ∷ []) ▸ Refused 11 ∷ arm 1000 (entry no_answer 2 0 2047 ∷ []) ▸ stays (trigger b) ∷ go ▸ routes R.Control 21470 ∷ [])
+    (arm 1000 (entry no_answer 2 0 2048 ∷ []) ▸ Err BadEntry ∷ arm 1000 (entry no_answer 2 0 2047 ∷ []) ▸ stays (trigger b) ∷ go ▸ routes R.Control 21470 ∷ [])
 
 -- T-04, leg of 16 and 51: Busy disarms the points of leg 2, and Connect follows. Are Moved and Mid-call, on this leg, among them?
 abbrev follows : Bcsm → ℕ → ℕ → ℕ → ℕ → Relationship → List Case
@@ -251,36 +248,36 @@ hangs_up b answer mid_call seized disconnect =
     ∷ charge Two 600 ▸ stays (trigger b)
     ∷ go ▸ routes R.Control 2200
     ∷ item 1100 B.Answer ▸ interrupts answer
-    ∷ connect 1150 ▸ Refused 12
-    ∷ clear 1200 Two ▸ ok R.Control (S.At answer) (reports None C.None (elapsed 100)) D.None false
-    ∷ clear 1200 Two ▸ Refused 12
+    ∷ connect 1150 ▸ Err Impossible
+    ∷ clear 1200 Two ▸ ok R.Control (Some answer) (reports None None (elapsed 100)) None false
+    ∷ clear 1200 Two ▸ Err Impossible
     ∷ connect 1220 ▸ routes R.Monitor 2420
-    ∷ item 1300 B.Answer ▸ says R.Monitor S.None None
+    ∷ item 1300 B.Answer ▸ says R.Monitor None None
     ∷ clear 1350 Two ▸ bills1 250
     ∷ [])
     ++ along (base b answer (in_mode (disconnect ╱ Two) 1 ∷ []))
-    (clear 1200 Two ▸ ok R.Control (S.At answer) (reports (Notification (disconnect ╱ Two)) C.None (elapsed 100)) D.None false ∷ item 1250 B.Continue ▸ bills1 150 ∷ [])
+    (clear 1200 Two ▸ ok R.Control (Some answer) (reports (Some (Notification (disconnect ╱ Two))) None (elapsed 100)) None false ∷ item 1250 B.Continue ▸ bills1 150 ∷ [])
     ++ along (base b answer (in_mode (disconnect ╱ Two) 0 ∷ []))
-    (clear 1200 Two ▸ ok R.Control (S.At (disconnect ╱ Two)) (reports (Interrupting (disconnect ╱ Two)) C.None (elapsed 100)) D.None false ∷ clear 1250 One ▸ bills1 150 ∷ [])
+    (clear 1200 Two ▸ ok R.Control (Some (disconnect ╱ Two)) (reports (Some (Interrupting (disconnect ╱ Two))) None (elapsed 100)) None false ∷ clear 1250 One ▸ bills1 150 ∷ [])
     -- "held, but not active": 12, at the trigger and at Seized
-    ++ along (begun b) (clear 1000 Two ▸ Refused 12 ∷ [])
-    ++ along (begun b ++ (arm 1000 (in_mode seized 0 ∷ []) ∷ go ∷ item 1100 B.Seized ∷ [])) (clear 1100 Two ▸ Refused 12 ∷ [])
+    ++ along (begun b) (clear 1000 Two ▸ Err Impossible ∷ [])
+    ++ along (begun b ++ (arm 1000 (in_mode seized 0 ∷ []) ∷ go ∷ item 1100 B.Seized ∷ [])) (clear 1100 Two ▸ Err Impossible ∷ [])
     -- "leg 1 absent already": accepted, armed in mode 0 and unarmed; then modes 0 and 1 are 12, and no Connect
     ++ along (talking b (in_mode (disconnect ╱ One) 0 ∷ in_mode (disconnect ╱ Two) 0 ∷ []))
-    (clear 1200 One ▸ interrupts (disconnect ╱ One) ∷ clear 1200 Two ▸ interrupts (disconnect ╱ Two) ∷ clear 1200 Two ▸ Refused 12 ∷ item 1200 B.Continue ▸ ends None ∷ [])
+    (clear 1200 One ▸ interrupts (disconnect ╱ One) ∷ clear 1200 Two ▸ interrupts (disconnect ╱ Two) ∷ clear 1200 Two ▸ Err Impossible ∷ item 1200 B.Continue ▸ ends None ∷ [])
     ++ along (talking b (in_mode (disconnect ╱ One) 0 ∷ []) ++ (clear 1200 One ∷ []))
-    (clear 1200 Two ▸ stays (disconnect ╱ One) ∷ arm 1200 (in_mode answer 0 ∷ []) ▸ Refused 12 ∷ arm 1200 (in_mode (disconnect ╱ Two) 1 ∷ []) ▸ Refused 12
-    ∷ connect 1200 ▸ Refused 12 ∷ arm 1200 (in_mode (disconnect ╱ Two) 2 ∷ []) ▸ stays (disconnect ╱ One) ∷ item 1200 B.Release ▸ ends None ∷ [])
+    (clear 1200 Two ▸ stays (disconnect ╱ One) ∷ arm 1200 (in_mode answer 0 ∷ []) ▸ Err Impossible ∷ arm 1200 (in_mode (disconnect ╱ Two) 1 ∷ []) ▸ Err Impossible
+    ∷ connect 1200 ▸ Err Impossible ∷ arm 1200 (in_mode (disconnect ╱ Two) 2 ∷ []) ▸ stays (disconnect ╱ One) ∷ item 1200 B.Release ▸ ends None ∷ [])
     -- held at Mid-call it stays there; any point can be armed, a charge of leg 1 starts at once, one of leg 2 is 12; Abort ends the call unreported
     ++ along (talking b (in_mode mid_call 0 ∷ []))
-    (item 1150 (B.MidCall 1) ▸ interrupts mid_call ∷ clear 1200 Two ▸ stays mid_call ∷ arm 1200 (in_mode answer 0 ∷ []) ▸ stays mid_call ∷ charge_at 1210 Two 30 ▸ Refused 12 ∷ charge_at 1210 One 30 ▸ stays mid_call
-    ∷ item 1239 (B.PeriodOver One) ▸ Refused 14 ∷ item 1240 (B.PeriodOver One) ▸ ok R.Control (S.At mid_call) (reports None (elapsed 30) C.None) D.None false
+    (item 1150 (B.MidCall 1) ▸ interrupts mid_call ∷ clear 1200 Two ▸ stays mid_call ∷ arm 1200 (in_mode answer 0 ∷ []) ▸ stays mid_call ∷ charge_at 1210 Two 30 ▸ Err Impossible ∷ charge_at 1210 One 30 ▸ stays mid_call
+    ∷ item 1239 (B.PeriodOver One) ▸ Err PeriodNotOver ∷ item 1240 (B.PeriodOver One) ▸ ok R.Control (Some mid_call) (reports None (elapsed 30) None) None false
     ∷ charge_at 1240 One 30 ▸ stays mid_call ∷ item 1250 B.Abort ▸ ends None ∷ [])
     -- the points of leg 1 stay armed
-    ++ along (base b answer (in_mode (disconnect ╱ One) 1 ∷ []) ++ (clear 1200 Two ∷ [])) (clear 1250 One ▸ ok R.None S.None (reports (Notification (disconnect ╱ One)) (elapsed 150) C.None) D.None true ∷ [])
+    ++ along (base b answer (in_mode (disconnect ╱ One) 1 ∷ []) ++ (clear 1200 Two ∷ [])) (clear 1250 One ▸ ok R.None None (reports (Some (Notification (disconnect ╱ One))) (elapsed 150) None) None true ∷ [])
     -- the caller hangs up while held, in mode 1 and unarmed: "still over, with both charges"
-    ++ along (base b answer (in_mode (disconnect ╱ One) 1 ∷ [])) (clear 1200 One ▸ ok R.None S.None (reports (Notification (disconnect ╱ One)) (elapsed 100) (elapsed 100)) D.None true ∷ [])
-    ++ along (base b answer []) (clear 1200 One ▸ ok R.None S.None (reports None (elapsed 100) (elapsed 100)) D.None true ∷ [])
+    ++ along (base b answer (in_mode (disconnect ╱ One) 1 ∷ [])) (clear 1200 One ▸ ok R.None None (reports (Some (Notification (disconnect ╱ One))) (elapsed 100) (elapsed 100)) None true ∷ [])
+    ++ along (base b answer []) (clear 1200 One ▸ ok R.None None (reports None (elapsed 100) (elapsed 100)) None true ∷ [])
 
 abbrev pub runs : List Case
 runs =
@@ -291,7 +288,7 @@ runs =
     ∷ go ▸ routes R.Control 1300
     ∷ item 1300 B.NoAnswer ▸ interrupts (6 ╱ Two)
     ∷ item 1310 B.Release ▸ ends None
-    ∷ item 1310 B.Continue ▸ Refused 4
+    ∷ item 1310 B.Continue ▸ Err CallNotOpen
     ∷ [])
     -- P3 with no kept timer: the default
     ++ along held (go ▸ routes R.None 2200 ∷ [])
@@ -304,9 +301,9 @@ runs =
     ++ along [] (setup Originating (stored 1) (4 ∷ 9 ∷ 1 ∷ []) ▸ triggered ∷ [])
     ++ along [] (setup Originating (stored 1) (4 ∷ 9 ∷ []) ▸ routes R.None 2200 ∷ [])
     -- P7 period 864000 accepted, 864001 and 0 malformed
-    ++ along held (charge Two 864001 ▸ Refused 1 ∷ charge Two 0 ▸ Refused 1 ∷ charge Two 864000 ▸ at2 ∷ [])
+    ++ along held (charge Two 864001 ▸ Err MalformedItem ∷ charge Two 0 ▸ Err MalformedItem ∷ charge Two 864000 ▸ at2 ∷ [])
     -- P8, what one call shows: no open call is 4, a Setup for an open call 5
-    ++ along [] (item 1000 B.Answer ▸ Refused 4 ∷ setup Originating plain (4 ∷ []) ▸ triggered ∷ setup Originating plain (4 ∷ []) ▸ Refused 5 ∷ [])
+    ++ along [] (item 1000 B.Answer ▸ Err CallNotOpen ∷ setup Originating plain (4 ∷ []) ▸ triggered ∷ setup Originating plain (4 ∷ []) ▸ Err CallOpen ∷ [])
     -- P9
     ++ p9 Originating 5 10
     -- P10
@@ -326,82 +323,82 @@ runs =
     (setup Terminating plain (4 ∷ 9 ∷ 1 ∷ 5 ∷ []) ▸ interrupts (12 ╱ One)
     ∷ arm 1000 (entry 14 2 0 30 ∷ entry 13 2 0 0 ∷ entry 18 1 1 0 ∷ []) ▸ at12
     ∷ go ▸ routes R.Control 1300
-    ∷ item 1050 B.Seized ▸ says R.Control S.None None
+    ∷ item 1050 B.Seized ▸ says R.Control None None
     ∷ item 1300 B.NoAnswer ▸ interrupts (14 ╱ Two)
     ∷ arm 1300 (entry 15 2 1 0 ∷ []) ▸ stays (14 ╱ Two)
     ∷ connect 1310 ▸ routes R.Monitor 2510
-    ∷ item 1400 B.Answer ▸ says R.None S.None (Notification (15 ╱ Two))
+    ∷ item 1400 B.Answer ▸ says R.None None (Some (Notification (15 ╱ Two)))
     ∷ clear 1500 One ▸ ends None
     ∷ [])
     ++ along (begun Terminating)
-    (arm 1000 (entry 27 2 1 0 ∷ entry 15 2 1 0 ∷ []) ▸ at12 ∷ go ▸ routes R.Monitor 2200 ∷ item 5000 B.Answer ▸ says R.None S.None (Notification (15 ╱ Two)) ∷ [])
+    (arm 1000 (entry 27 2 1 0 ∷ entry 15 2 1 0 ∷ []) ▸ at12 ∷ go ▸ routes R.Monitor 2200 ∷ item 5000 B.Answer ▸ says R.None None (Some (Notification (15 ╱ Two))) ∷ [])
     ++ along [] (setup_for Terminating service5 5 false ▸ interrupts (12 ╱ One) ∷ [])
     ++ along [] (setup_for Terminating service5 6 false ▸ routes R.None 2200 ∷ [])
     ++ along [] (setup_for Originating service5 5 false ▸ routes R.None 2200 ∷ [])
     -- T-04's readings. "Route failure while held": 9, else 12, after an Abort too
-    ++ along (begun Terminating) (item 1000 (B.RouteFailure 3) ▸ Refused 9 ∷ go ▸ routes R.None 2200 ∷ item 1000 (B.RouteFailure 3) ▸ Refused 12 ∷ [])
-    ++ along (begun Terminating) (item 1000 B.Abort ▸ routes R.None 2200 ∷ item 1000 (B.RouteFailure 3) ▸ Refused 12 ∷ [])
+    ++ along (begun Terminating) (item 1000 (B.RouteFailure 3) ▸ Err Held ∷ go ▸ routes R.None 2200 ∷ item 1000 (B.RouteFailure 3) ▸ Err Impossible ∷ [])
+    ++ along (begun Terminating) (item 1000 B.Abort ▸ routes R.None 2200 ∷ item 1000 (B.RouteFailure 3) ▸ Err Impossible ∷ [])
     -- "leg of 16 and 51": leg 2
     ++ follows Terminating 13 51 16 2 R.None
     ++ follows Originating 5 50 8 1 R.Monitor
     -- "Connect": stays terminating; after it 15 may be met, 7 of leg 2 is 11
     ++ along (begun Terminating)
-    (arm 1000 (entry 15 2 0 0 ∷ []) ▸ at12 ∷ connect 1000 ▸ routes R.Control 2200 ∷ arm 1000 (entry 7 2 0 0 ∷ []) ▸ Refused 11
+    (arm 1000 (entry 15 2 0 0 ∷ []) ▸ at12 ∷ connect 1000 ▸ routes R.Control 2200 ∷ arm 1000 (entry 7 2 0 0 ∷ []) ▸ Err BadEntry
     ∷ item 5000 B.Answer ▸ interrupts (15 ╱ Two) ∷ [])
     -- "the other kind's pairs": 11, before any 12
     ++ along (begun Terminating)
-    (arm 1000 (entry 5 2 0 0 ∷ []) ▸ Refused 11 ∷ arm 1000 (entry 16 1 1 0 ∷ []) ▸ Refused 11 ∷ arm 1000 (entry 19 2 1 0 ∷ []) ▸ Refused 11
+    (arm 1000 (entry 5 2 0 0 ∷ []) ▸ Err BadEntry ∷ arm 1000 (entry 16 1 1 0 ∷ []) ▸ Err BadEntry ∷ arm 1000 (entry 19 2 1 0 ∷ []) ▸ Err BadEntry
     ∷ arm 1000 (entry 27 2 0 0 ∷ []) ▸ at12 ∷ go ▸ routes R.Control 2200 ∷ item 1100 B.Seized ▸ interrupts (27 ╱ Two)
-    ∷ arm 1100 (entry 27 2 1 0 ∷ entry 7 2 1 0 ∷ []) ▸ Refused 11 ∷ arm 1100 (entry 27 2 1 0 ∷ []) ▸ Refused 12 ∷ [])
+    ∷ arm 1100 (entry 27 2 1 0 ∷ entry 7 2 1 0 ∷ []) ▸ Err BadEntry ∷ arm 1100 (entry 27 2 1 0 ∷ []) ▸ Err Impossible ∷ [])
     -- "5": by the call's number, whatever the kinds
-    ++ along (begun Terminating) (setup Originating plain (4 ∷ []) ▸ Refused 5 ∷ [])
-    ++ along held (setup Terminating plain (4 ∷ []) ▸ Refused 5 ∷ [])
+    ++ along (begun Terminating) (setup Originating plain (4 ∷ []) ▸ Err CallOpen ∷ [])
+    ++ along held (setup Terminating plain (4 ∷ []) ▸ Err CallOpen ∷ [])
     -- "unarmed T_Busy, T_No_Answer": never a trigger
     ++ along [] (setup Terminating service8 (4 ∷ []) ▸ routes R.None 2200 ∷ item 2000 (B.Busy 17) ▸ ends None ∷ [])
     -- "forwarded flag": 0 or 1, unused; 2 is 1. (It stands at place 16 of the item.)
     ++ along [] (setup Terminating forwarded (4 ∷ []) ▸ interrupts (12 ╱ One) ∷ [])
     ++ along []
-    (record { item = set (setup_for Terminating plain 0 true).item 16 2; profile = plain } ▸ Refused 1
+    (record { item = set (setup_for Terminating plain 0 true).item 16 2; profile = plain } ▸ Err MalformedItem
     ∷ setup_for Terminating service5 5 true ▸ interrupts (12 ╱ One) ∷ [])
     -- document 01's profile of a Setup: malformed is 2, for kind 11 too
-    ++ along [] (setup Terminating [] (4 ∷ []) ▸ Refused 2 ∷ [])
+    ++ along [] (setup Terminating [] (4 ∷ []) ▸ Err MalformedProfile ∷ [])
     -- T-05
     ++ hangs_up Originating (7 ╱ Two) (8 ╱ One) (19 ╱ Two) 9
     ++ hangs_up Terminating (15 ╱ Two) (16 ╱ Two) (27 ╱ Two) 17
     -- slip, a charge clock started at the grant: none runs before the Answer
-    ++ along (granted Originating) (item 5600 (B.PeriodOver Two) ▸ Refused 12 ∷ [])
+    ++ along (granted Originating) (item 5600 (B.PeriodOver Two) ▸ Err Impossible ∷ [])
     -- slip, an unarmed Answer that disarms nothing
     ++ along held
     (arm 1000 (entry 4 2 0 0 ∷ entry 5 2 0 0 ∷ entry 6 2 0 0 ∷ entry 10 1 0 0 ∷ []) ▸ at2 ∷ go ▸ routes R.Control 2200
-    ∷ item 5000 B.Answer ▸ says R.None S.None None ∷ [])
+    ∷ item 5000 B.Answer ▸ says R.None None None ∷ [])
     -- slip, a relationship that outlives the last armed point
     ++ along held
     (arm 1000 (entry 19 2 1 0 ∷ []) ▸ at2 ∷ go ▸ routes R.Monitor 2200
-    ∷ item 1100 B.Seized ▸ says R.None S.None (Notification (19 ╱ Two)) ∷ item 1100 B.ActivityTest ▸ Refused 8 ∷ [])
+    ∷ item 1100 B.Seized ▸ says R.None None (Some (Notification (19 ╱ Two))) ∷ item 1100 B.ActivityTest ▸ Err NoControl ∷ [])
     -- nor does the kept timer hold it, which outlives the arming of 6
     ++ along held
     (arm 1000 (entry 19 2 0 0 ∷ []) ▸ at2 ∷ go ▸ routes R.Control 2200 ∷ item 1100 B.Seized ▸ interrupts (19 ╱ Two)
     ∷ arm 1100 (entry 6 2 1 30 ∷ []) ▸ stays (19 ╱ Two) ∷ arm 1100 (entry 6 2 2 0 ∷ []) ▸ stays (19 ╱ Two)
-    ∷ item 1100 B.Continue ▸ says R.None S.None None ∷ [])
+    ∷ item 1100 B.Continue ▸ says R.None None None ∷ [])
     -- slip, a TNRy reused on the follow-on call
     ++ along held
     (arm 1000 (entry 6 2 0 30 ∷ []) ▸ at2 ∷ connect 1000 ▸ routes R.Control 1300
     ∷ item 1300 B.NoAnswer ▸ interrupts (6 ╱ Two) ∷ connect 1310 ▸ routes R.None 2510 ∷ [])
     -- slip, a half-applied arming list
-    ++ along held (arm 1000 (entry 6 2 0 30 ∷ entry 5 2 3 0 ∷ []) ▸ Refused 11 ∷ go ▸ routes R.None 2200 ∷ [])
+    ++ along held (arm 1000 (entry 6 2 0 30 ∷ entry 5 2 3 0 ∷ []) ▸ Err BadEntry ∷ go ▸ routes R.None 2200 ∷ [])
     -- 2 before 5; 9 before 12; 7 before 8; 8 before 10
     ++ along held
-    (setup Originating [] (4 ∷ []) ▸ Refused 2 ∷ item 1000 (B.MidCall 1) ▸ Refused 9 ∷ go ▸ routes R.None 2200
-    ∷ item 1000 (B.MidCall 1) ▸ Refused 12 ∷ item 999 B.Continue ▸ Refused 7 ∷ go ▸ Refused 8 ∷ [])
+    (setup Originating [] (4 ∷ []) ▸ Err MalformedProfile ∷ item 1000 (B.MidCall 1) ▸ Err Held ∷ go ▸ routes R.None 2200
+    ∷ item 1000 (B.MidCall 1) ▸ Err Impossible ∷ item 999 B.Continue ▸ Err EarlierTime ∷ go ▸ Err NoControl ∷ [])
     -- 10 before 12; 11 before 12, for a bad entry after an impossible one
     ++ along held
-    (arm 1000 (entry 7 2 0 0 ∷ []) ▸ at2 ∷ go ▸ routes R.Control 2200 ∷ connect 1000 ▸ Refused 10
-    ∷ item 5000 B.Answer ▸ interrupts (7 ╱ Two) ∷ connect 5000 ▸ Refused 12
-    ∷ arm 5000 (entry 5 2 0 0 ∷ entry 9 3 0 0 ∷ []) ▸ Refused 11 ∷ arm 5000 (entry 5 2 0 0 ∷ []) ▸ Refused 12 ∷ [])
+    (arm 1000 (entry 7 2 0 0 ∷ []) ▸ at2 ∷ go ▸ routes R.Control 2200 ∷ connect 1000 ▸ Err NotHeld
+    ∷ item 5000 B.Answer ▸ interrupts (7 ╱ Two) ∷ connect 5000 ▸ Err Impossible
+    ∷ arm 5000 (entry 5 2 0 0 ∷ entry 9 3 0 0 ∷ []) ▸ Err BadEntry ∷ arm 5000 (entry 5 2 0 0 ∷ []) ▸ Err Impossible ∷ [])
     -- 12 before 13: leg 1 absent, a charge pending on leg 2
     ++ along held
-    (arm 1000 (entry 10 1 0 0 ∷ []) ▸ at2 ∷ charge Two 600 ▸ at2 ∷ charge Two 600 ▸ Refused 13
-    ∷ clear 1000 One ▸ interrupts (10 ╱ One) ∷ charge Two 600 ▸ Refused 12 ∷ [])
+    (arm 1000 (entry 10 1 0 0 ∷ []) ▸ at2 ∷ charge Two 600 ▸ at2 ∷ charge Two 600 ▸ Err ChargePending
+    ∷ clear 1000 One ▸ interrupts (10 ╱ One) ∷ charge Two 600 ▸ Err Impossible ∷ [])
     -- triggering: inhibiting, a length, a service, forwarded calls only
     ++ along [] (setup Originating (stored 2) (4 ∷ 9 ∷ 1 ∷ 5 ∷ []) ▸ routes R.None 2200 ∷ [])
     ++ along [] (setup Originating (stored 2) (4 ∷ 9 ∷ []) ▸ triggered ∷ [])
@@ -413,32 +410,32 @@ runs =
     ++ along [] (setup Originating forwarded (4 ∷ []) ▸ routes R.None 2200 ∷ [])
     -- two charges, of leg 1 first: at the end of the call, and for a caller who hangs up while the call is held
     ++ along held
-    (charge One 100 ▸ at2 ∷ charge Two 600 ▸ at2 ∷ go ▸ routes R.Monitor 2200 ∷ item 5000 B.Answer ▸ says R.Monitor S.None None
-    ∷ clear 5123 One ▸ ok R.None S.None (reports None (elapsed 100) (elapsed 123)) D.None true ∷ [])
+    (charge One 100 ▸ at2 ∷ charge Two 600 ▸ at2 ∷ go ▸ routes R.Monitor 2200 ∷ item 5000 B.Answer ▸ says R.Monitor None None
+    ∷ clear 5123 One ▸ ok R.None None (reports None (elapsed 100) (elapsed 123)) None true ∷ [])
     ++ along held
-    (charge One 100 ▸ at2 ∷ charge Two 600 ▸ at2 ∷ clear 1000 One ▸ ok R.None S.None (reports None (elapsed 0) (elapsed 0)) D.None true ∷ [])
+    (charge One 100 ▸ at2 ∷ charge Two 600 ▸ at2 ∷ clear 1000 One ▸ ok R.None None (reports None (elapsed 0) (elapsed 0)) None true ∷ [])
     -- Release with a charge; a charge lost at Busy, then Continue without leg 2; Period over while held; Activity test
     ++ along held
-    (arm 1000 (entry 9 2 0 0 ∷ []) ▸ at2 ∷ charge Two 600 ▸ at2 ∷ go ▸ routes R.Control 2200 ∷ item 5000 B.Answer ▸ says R.Control S.None None
+    (arm 1000 (entry 9 2 0 0 ∷ []) ▸ at2 ∷ charge Two 600 ▸ at2 ∷ go ▸ routes R.Control 2200 ∷ item 5000 B.Answer ▸ says R.Control None None
     ∷ item 5050 B.Release ▸ bills2 50 true ∷ [])
     ++ along held
     (arm 1000 (entry 5 2 0 0 ∷ []) ▸ at2 ∷ charge Two 600 ▸ at2 ∷ go ▸ routes R.Control 2200
-    ∷ item 2000 (B.Busy 17) ▸ ok R.Control (S.At (5 ╱ Two)) (reports (Interrupting (5 ╱ Two)) C.None (elapsed 0)) D.None false ∷ item 2010 B.Continue ▸ ends None ∷ [])
+    ∷ item 2000 (B.Busy 17) ▸ ok R.Control (Some (5 ╱ Two)) (reports (Some (Interrupting (5 ╱ Two))) None (elapsed 0)) None false ∷ item 2010 B.Continue ▸ ends None ∷ [])
     ++ along held
     (item 1000 B.ActivityTest ▸ at2 ∷ arm 1000 (entry 7 2 0 0 ∷ []) ▸ at2 ∷ charge Two 600 ▸ at2 ∷ go ▸ routes R.Control 2200 ∷ item 5000 B.Answer ▸ interrupts (7 ╱ Two)
-    ∷ item 5600 (B.PeriodOver Two) ▸ ok R.Control (S.At (7 ╱ Two)) (reports None C.None (elapsed 600)) D.None false ∷ [])
+    ∷ item 5600 (B.PeriodOver Two) ▸ ok R.Control (Some (7 ╱ Two)) (reports None None (elapsed 600)) None false ∷ [])
     -- Abort: held at 2, the kept timer and the charge dropped; not held; with default release
     ++ along held (arm 1000 (entry 6 2 0 30 ∷ []) ▸ at2 ∷ charge Two 600 ▸ at2 ∷ item 1000 B.Abort ▸ routes R.None 2200 ∷ [])
-    ++ along held (arm 1000 (entry 9 2 0 0 ∷ []) ▸ at2 ∷ go ▸ routes R.Control 2200 ∷ item 1000 B.Abort ▸ says R.None S.None None ∷ [])
+    ++ along held (arm 1000 (entry 9 2 0 0 ∷ []) ▸ at2 ∷ go ▸ routes R.Control 2200 ∷ item 1000 B.Abort ▸ says R.None None None ∷ [])
     ++ along [] (setup Originating releasing (4 ∷ []) ▸ triggered ∷ charge Two 600 ▸ at2 ∷ item 1000 B.Abort ▸ ends None ∷ [])
     -- mode 2 disarms; 50 takes no mode 0; any point can be armed without leg 2, none without leg 1, but for mode 2
-    ++ along held (arm 1000 (entry 5 2 0 0 ∷ []) ▸ at2 ∷ arm 1000 (entry 5 2 2 0 ∷ []) ▸ at2 ∷ arm 1000 (entry 50 1 0 0 ∷ []) ▸ Refused 11 ∷ go ▸ routes R.None 2200 ∷ [])
+    ++ along held (arm 1000 (entry 5 2 0 0 ∷ []) ▸ at2 ∷ arm 1000 (entry 5 2 2 0 ∷ []) ▸ at2 ∷ arm 1000 (entry 50 1 0 0 ∷ []) ▸ Err BadEntry ∷ go ▸ routes R.None 2200 ∷ [])
     ++ along held
-    (arm 1000 (entry 9 2 0 0 ∷ []) ▸ at2 ∷ go ▸ routes R.Control 2200 ∷ item 5000 B.Answer ▸ says R.Control S.None None ∷ clear 5100 Two ▸ interrupts (9 ╱ Two)
+    (arm 1000 (entry 9 2 0 0 ∷ []) ▸ at2 ∷ go ▸ routes R.Control 2200 ∷ item 5000 B.Answer ▸ says R.Control None None ∷ clear 5100 Two ▸ interrupts (9 ╱ Two)
     ∷ arm 5100 (entry 4 2 1 0 ∷ []) ▸ stays (9 ╱ Two) ∷ [])
     ++ along held
     (arm 1000 (entry 10 1 0 0 ∷ []) ▸ at2 ∷ clear 1000 One ▸ interrupts (10 ╱ One)
-    ∷ arm 1000 (entry 9 2 1 0 ∷ []) ▸ Refused 12 ∷ arm 1000 (entry 9 2 2 0 ∷ []) ▸ stays (10 ╱ One) ∷ [])
+    ∷ arm 1000 (entry 9 2 1 0 ∷ []) ▸ Err Impossible ∷ arm 1000 (entry 9 2 2 0 ∷ []) ▸ stays (10 ╱ One) ∷ [])
 
 pub cases : map last_answer runs ≡ map (λ (c : Case). c.answer) runs
 unfolding flatten all contains leads same item_bytes item_in_range rest_at body_from body_of item_of is_item read_item entry_of fields_of profile_bytes profile_in_range numbers_at numbers_end view_at profile_of is_profile some_matches triggers some_armed entries_of are_good are_possible armed_with met continued aborted respond_in early_of set_up_of open_of alone_step

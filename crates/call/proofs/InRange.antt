@@ -13,19 +13,17 @@ use Rattle.forms.specs.Fields.{Field, byte, nature, digit_count, is_digit, all_i
 use Rattle.forms.specs.Item.{form_of, rest_in_range, item_in_range}
 use Rattle.forms.specs.Profile.{fields_of, profile_bytes, sense_in_range, profile_in_range, profile_of, is_profile}
 use Rattle.forms.specs.Units.{is_clock_reading, is_period, is_timer, is_default_timer}
+use Rattle.std.specs.Prelude.{Option, Some, None, Ok, Err}
 use Rattle.forms.specs.declared.item.Body.TheVariants as body
 use Rattle.forms.specs.declared.item.Leg.TheVariants.{One, Two}
 use Rattle.forms.proofs.ByteLaws.{and_left, and_right}
-use Rattle.call.specs.Types.{Bcsm, Body, Item, Entry, Leg, Handling, Seconds, Tenths, PointSet, Role, Named, Stage, Mode, Clock, Charge, LegState, Arming, Hold, Number, Record, Answer, Stepped, Kind, Opening, Early}
+use Rattle.call.specs.Types.{Bcsm, Body, Item, Entry, Leg, Handling, Seconds, Tenths, PointSet, Role, Stage, Mode, Clock, Charge, LegState, Arming, Hold, Number, Record, Answer, Stepped, Kind, Opening, Early}
 use Rattle.call.specs.declared.roles.Role.TheVariants as role
 use Rattle.call.specs.declared.record.Presence.TheVariants.{Absent, Present}
 use Rattle.call.specs.declared.stages.Stage.TheVariants.{Analysing}
-use Rattle.call.specs.declared.points.Named.TheVariants.{Unknown, Known}
 use Rattle.call.specs.declared.armings.Mode.TheVariants as mode
 use Rattle.call.specs.declared.record.Clock.TheVariants as clock
 use Rattle.call.specs.declared.record.Hold.TheVariants as hold
-use Rattle.call.specs.declared.answers.Answer.TheVariants.{Accepted, Refused}
-use Rattle.call.specs.declared.refusals.Check.TheVariants.{Pass}
 use Rattle.call.specs.declared.kind.Kind.TheVariants as kind
 use Rattle.forms.specs.Profile.{is_release}
 use Rattle.call.specs.Roles.{roles, place_of, is_role, is_among, every, is_active}
@@ -222,9 +220,9 @@ kept_fits true timer kept h g = g
 kept_fits false timer kept h g = h
 
 module _ (dp : PointSet) (fit : is_point_set dp ≡ true) where
-  entry_fits : (r : Record) (e : Entry) (x : Named) → named dp e ≡ x → (seen : List Bool) → Fits dp r → is_good x seen e ≡ true → Fits dp (armed_by r x e)
-  entry_fits r e Unknown n seen f h = f
-  entry_fits r e (Known p) n seen f h =
+  entry_fits : (r : Record) (e : Entry) (x : Option Role) → named dp e ≡ x → (seen : List Bool) → Fits dp r → is_good x seen e ≡ true → Fits dp (armed_by r x e)
+  entry_fits r e None n seen f h = f
+  entry_fits r e (Some p) n seen f h =
       let g = each (is_mode_for p e.mode) (is_timer_for p e.mode e.timer ∷ not (get_or seen (place_of p) false) ∷ []) h in
       let on = pair_point (point_in dp p) e.leg e.point ((role_exactly dp fit p e.leg e.point).0 n) in
       armed_fits dp r f (set r.armings (place_of p) (record { mode = mode_of e.mode })) (kept_after e.timer r.kept)
@@ -262,7 +260,7 @@ number_fits_lem n c ds h =
 
 -- what an item in range asks: a number or a period in range
 abbrev asks_fit : Kind → List ℕ → Bool
-asks_fit (kind.Setup b nature service forwarded count) rest = number_in_range (number_of nature count rest)
+asks_fit (kind.Setup s) rest = number_in_range (number_of s.nature s.count rest)
 asks_fit (kind.Event e) rest = true
 asks_fit (kind.PeriodOver l) rest = true
 asks_fit (kind.RequestReport n) rest = true
@@ -274,7 +272,7 @@ asks_fit kind.ActivityTest rest = true
 asks_fit kind.Abort rest = true
 
 body_fits : (x : Body) (rest : List ℕ) → (all_in_range (form_of x).fields && rest_in_range (form_of x).rest rest) ≡ true → asks_fit (kind_of x) rest ≡ true
-body_fits (body.Setup b n v w c) rest h = number_fits_lem n c rest h
+body_fits (body.Setup s) rest h = number_fits_lem s.nature s.count rest h
 body_fits (body.RouteFailure c) rest h = refl
 body_fits (body.Busy c) rest h = refl
 body_fits body.NoAnswer rest h = refl
@@ -364,11 +362,11 @@ module _ (dp : PointSet) (fit : is_point_set dp ≡ true) (r : Record) (t : Tent
       numbered_fits dp q (legs_fit dp p (staged_fits dp (timed r t) g Analysing hold.None refl) (leg_at One r) (leg Present (leg_at Two r).charge) g.leg1 g.leg2) n h
 
   -- the first row: the time is not before the last
-  in_time : (k : Kind) → first_of (row7 r t ∷ drop 1 (rows_of dp r k t rest)) ≡ Pass → r.last.0 ≤ t.0
+  in_time : (k : Kind) → first_of (row7 r t ∷ drop 1 (rows_of dp r k t rest)) ≡ Ok tt → r.last.0 ≤ t.0
   in_time k h = ltb-false _ _ (no_row (row7 r t ∷ drop 1 (rows_of dp r k t rest)) h 0)
 
-  served_left : (k : Kind) → asks_fit k rest ≡ true → first_of (rows_of dp r k t rest) ≡ Pass → LeftWell dp t (served dp r k t rest)
-  served_left (kind.Setup b n s w c) a h = refl
+  served_left : (k : Kind) → asks_fit k rest ≡ true → first_of (rows_of dp r k t rest) ≡ Ok tt → LeftWell dp t (served dp r k t rest)
+  served_left (kind.Setup s) a h = refl
   served_left (kind.Event e) a h = met_left dp r t f o (in_time (kind.Event e) h) (role_of e r.stage)
   served_left (kind.PeriodOver l) a h = let q = charged_fits dp r t f o (in_time (kind.PeriodOver l) h) l no_charge refl in goes dp _ t q.0 q.1
   served_left (kind.RequestReport n) a h =
@@ -397,15 +395,15 @@ respond_in_left dp fit r i rest h g =
     let b = all_in_range form.fields && rest_in_range form.rest rest in
     let o = and_right b (is_clock_reading t) g in
     on_guard (LeftWell dp t) (first_of (row1_time t ∷ rows_of dp r k t rest)) r (served dp r k t rest) (λ n. refl)
-    (λ e. served_left dp fit r t rest (fits dp r h) o k (body_fits i.body rest (and_left b (is_clock_reading t) g)) (passes (row1_time t).applies 1 (first_of (rows_of dp r k t rest)) e).1)
+    (λ e. served_left dp fit r t rest (fits dp r h) o k (body_fits i.body rest (and_left b (is_clock_reading t) g)) (passes (row1_time t).applies (row1_time t).refusal (first_of (rows_of dp r k t rest)) e).1)
 
 -- by the points of its own kind, where that is the kind b
 by_kind : (b : Bcsm) (t : Tenths) (s : Stepped) → (is_over s.answer ≡ false → s.next.bcsm ≡ b) → LeftWell (set_of b) t s → is_left_well t s ≡ true
 by_kind b t s k h = same s.answer (λ o. ap (λ x. in_range_of (set_of x) s.next && eqb s.next.last.0 t.0) (k o)) ∙ h
   where
     same : (a : Answer) {x y : Bool} → (is_over a ≡ false → x ≡ y) → remains a true true x ≡ remains a true true y
-    same (Refused n) f = refl
-    same (Accepted o) f = go o.over f
+    same (Err n) f = refl
+    same (Ok o) f = go o.over f
       where
         go : (b : Bool) {x y : Bool} → (b ≡ false → x ≡ y) → cond b true x ≡ cond b true y
         go true f = refl
@@ -454,9 +452,9 @@ set_up_left i rest o h a =
     (λ e. go (not-false (is_clock_reading i.time) (no_row (row1_time i.time ∷ []) e 0)) (as_setup (kind_of i.body)) a)
   where
     go : is_clock_reading i.time ≡ true → {k : Kind} → AsSetup k → asks_fit k rest ≡ true
-        → is_left_well i.time (if_setup k (λ b n v w c. begun b o.triggered o.timer o.handling (number_of n c rest) i.time) not_open) ≡ true
-    go t (setup b n v w c) a = begun_left b o.triggered o.timer o.handling (number_of n c rest) i.time h t a
-    go t (other e) a = rw (e Stepped (λ b n v w c. begun b o.triggered o.timer o.handling (number_of n c rest) i.time) not_open)
+        → is_left_well i.time (if_setup k (λ u. begun u.bcsm o.triggered o.timer o.handling (number_of u.nature u.count rest) i.time) not_open) ≡ true
+    go t (setup u) a = begun_left u.bcsm o.triggered o.timer o.handling (number_of u.nature u.count rest) i.time h t a
+    go t (other e) a = rw (e Stepped (λ u. begun u.bcsm o.triggered o.timer o.handling (number_of u.nature u.count rest) i.time) not_open)
 
 pub open_left : (i : Item) (rest s : List ℕ) → is_left_well i.time (open_of i rest s) ≡ true
 unfolding item_in_range

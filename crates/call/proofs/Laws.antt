@@ -1,34 +1,34 @@
 -- Laws of tests and of the loops, for the proofs of the functions and for the theorems.
 use Prim.Native.Nat.{ℕ, zero, suc, ◌+◌, ◌-◌, ◌*◌, ◌≤◌, ◌<◌}
 use mathlib.Core.Path.{◌≡◌, refl, sym, ap, ◌∙◌}
-use mathlib.Core.Bool.{Bool, true, false, not, cond, ◌&&◌, ◌||◌, and-true, and-false, and_assoc, false≢true}
+use mathlib.Core.Bool.{Bool, true, false, not, cond, ◌&&◌, ◌||◌, and-true, and-false, and_assoc}
 use mathlib.Core.List.{List, [], ◌∷◌}
 use native.Mathlib.Numerals.{add-one}
 use native.Mathlib.Nat.{sub-eq-zero_of_le}
 use native.Mathlib.Omega.{arith}
+use denote.Enum.Bare.{sameb}
 use lib.Dec.{ltb, eqb, eqb-suc-suc}
 use lib.ListN.{length, get_or, drop, set, drop_of_length-le}
-use lib.Seq.{drop-cons, drop-drop, set-get_or}
+use lib.Seq.{drop-cons, drop-drop}
 use borrow.Author.Tests.{ltb-true, ltb-false, lt-ltb, le-ltb, ne_eqb}
+use Rattle.std.specs.Prelude.{Option, Some, None, Ok, Err}
 use Rattle.forms.specs.Fields.{is_digit, all_in_range}
 use Rattle.forms.specs.Item.{form_of, rest_in_range, item_in_range, entry_of}
-use Rattle.forms.specs.Profile.{view_of, profile_of, is_profile, read_profile}
 use Rattle.forms.specs.Units.{clock_end}
 use Rattle.forms.specs.declared.item.Leg.TheVariants.{One, Two}
-use Rattle.call.specs.Types.{Entry, Item, Leg, Seconds, Tenths, PointSet, Mode, Charge, Arming, Named, Record, Reports, Deadline, Relationship, Check, Stepped}
-use Rattle.forms.specs.declared.profile.ProfileView.{ProfileView}
-use Rattle.forms.specs.declared.profile.ReadProfile.TheVariants.{Profile, Refused}
+use Rattle.call.specs.Types.{Entry, Item, Leg, Seconds, Tenths, PointSet, Mode, Charge, Arming, Role, Record, Reports, Refusal, Relationship, Check, Stepped}
 use Rattle.forms.proofs.ByteLaws.{and_left, and_right}
+use Rattle.call.specs.contracts.armings.Mode.{the_type}
 use Rattle.call.specs.declared.armings.Mode.TheVariants as mode
-use Rattle.call.specs.declared.refusals.Check.TheVariants.{Pass, Fail}
-use Rattle.call.specs.declared.points.Named.TheVariants.{Unknown, Known}
+use Rattle.forms.specs.declared.refusal.Refusal.TheVariants.{MalformedItem}
 use Rattle.call.specs.declared.relationship.Relationship.TheVariants as relationship
 use Rattle.call.specs.Armings.{unarmed, is_mode, some_armed, nothing_armed, stronger, strongest}
 use Rattle.call.specs.Record.{is_pending, is_held, armed_as}
 use Rattle.call.specs.Relationship.{relationship_of}
 use Rattle.call.specs.Points.{set_of}
 use Rattle.call.specs.Answers.{Row, row, first_of, goes_on, refused, guarded}
-use Rattle.call.specs.Request.{entries_of, named, is_good, place_named, seen_after, are_good, is_possible, are_possible, arming_after, kept_for, armed_by, armed_with}
+use Rattle.call.specs.Roles.{place_of}
+use Rattle.call.specs.Request.{entries_of, named, is_good, are_good, is_possible, are_possible, armed_by, armed_with}
 use Rattle.call.specs.Operations.{charged}
 use Rattle.call.specs.Range.{places_in_range}
 
@@ -44,9 +44,9 @@ by_cond P true x y h g = h refl
 by_cond P false x y h g = g refl
 
 -- what holds of each refusal, and of what passes, holds of what is guarded
-pub on_guard : (P : Stepped → Type 0) (c : Check) (r : Record) (s : Stepped) → ((n : ℕ) → P (refused r n)) → (c ≡ Pass → P s) → P (guarded c r s)
-on_guard P Pass r s f h = h refl
-on_guard P (Fail n) r s f h = f n
+pub on_guard : (P : Stepped → Type 0) (c : Check) (r : Record) (s : Stepped) → ((n : Refusal) → P (refused r n)) → (c ≡ Ok tt → P s) → P (guarded c r s)
+on_guard P (Ok tt) r s f h = h refl
+on_guard P (Err n) r s f h = f n
 
 -- ---- tests in a row
 
@@ -82,39 +82,32 @@ ltb_same a b c d f g = go (ltb a b) refl
             stay true k = absurd (let p : a < b = g (ltb-true c d k) in omega arith)
             stay false k = ltb-false c d k
 
--- less than p has passed since s exactly if t is before s + p
+-- Cited by no proof any more; docs/PORT.md names it. Less than p has passed since s exactly if t is before s + p.
 pub ltb_shift : (s p t : ℕ) → s ≤ t → ltb (t - s) p ≡ ltb t (s + p)
 ltb_shift s p t h = ltb_same (t - s) p t (s + p) (λ k. omega arith) (λ k. omega arith)
 
 -- ---- refusals: a row that passes does not apply, and those after it pass
 
-pub passes : (b : Bool) (n : ℕ) (c : Check) → cond b (Fail n) c ≡ Pass → (b ≡ false) × (c ≡ Pass)
+pub passes : (b : Bool) (n : Refusal) (c : Check) → cond b (Err n) c ≡ Ok tt → (b ≡ false) × (c ≡ Ok tt)
 passes true n c e = absurd (let z : ◌≡◌ {A = ℕ} 0 1 = cc in omega arith)
 passes false n c e = (refl, e)
 
+-- of two rows the first passes, and the second is given
+pub second_stops : (x y : Row) (then c d : Check) (n : Refusal) → c ≡ first_of (x ∷ []) → c ≡ Ok tt → d ≡ first_of (y ∷ []) → d ≡ Err n → d ≡ cond x.applies (Err x.refusal) (cond y.applies (Err y.refusal) then)
+second_stops x y then c d n e h f g = go x.applies y.applies (sym e ∙ h) (sym f ∙ g)
+  where
+    go : (a b : Bool) → ◌≡◌ {A = Check} (cond a (Err x.refusal) (Ok tt)) (Ok tt) → ◌≡◌ {A = Check} (cond b (Err y.refusal) (Ok tt)) (Err n) → d ≡ cond a (Err x.refusal) (cond b (Err y.refusal) then)
+    go true b p q = absurd (let z : ◌≡◌ {A = ℕ} 0 1 = cc in omega arith)
+    go false true p q = g ∙ sym q
+    go false false p q = absurd (let z : ◌≡◌ {A = ℕ} 0 1 = cc in omega arith)
+
 -- where no refusal is given, no row applies
-pub no_row : (rows : List Row) → first_of rows ≡ Pass → (i : ℕ) → (get_or rows i (row 0 false)).applies ≡ false
+pub no_row : (rows : List Row) → first_of rows ≡ Ok tt → (i : ℕ) → (get_or rows i (row MalformedItem false)).applies ≡ false
 no_row [] h i = refl
-no_row (x ∷ xs) h zero = (passes x.applies x.number (first_of xs) h).0
-no_row (x ∷ xs) h (suc i) = no_row xs (passes x.applies x.number (first_of xs) h).1 i
+no_row (x ∷ xs) h zero = (passes x.applies x.refusal (first_of xs) h).0
+no_row (x ∷ xs) h (suc i) = no_row xs (passes x.applies x.refusal (first_of xs) h).1 i
 
--- ---- what was read of a profile, and the time of an item in range
-
-pub profile_read : (s : List ℕ) (v : ProfileView) → read_profile s ≡ Profile v → (is_profile (profile_of s) s ≡ true) × (view_of s ≡ v)
-unfolding read_profile
-profile_read s v e = go (is_profile (profile_of s) s) e
-  where
-    go : (b : Bool) → cond b (Profile (view_of s)) (Refused 2) ≡ Profile v → (b ≡ true) × (view_of s ≡ v)
-    go true h = (refl, cc)
-    go false h = absurd (let z : ◌≡◌ {A = ℕ} 0 1 = cc in omega arith)
-
-pub profile_refused : (s : List ℕ) (n : ℕ) → read_profile s ≡ Refused n → is_profile (profile_of s) s ≡ false
-unfolding read_profile
-profile_refused s n e = go (is_profile (profile_of s) s) e
-  where
-    go : (b : Bool) → cond b (Profile (view_of s)) (Refused 2) ≡ Refused n → b ≡ false
-    go true h = absurd (let z : ◌≡◌ {A = ℕ} 0 1 = cc in omega arith)
-    go false h = refl
+-- ---- the time of an item in range
 
 pub time_fits : (i : Item) (rest : List ℕ) → item_in_range i rest ≡ true → ltb i.time.0 clock_end ≡ true
 unfolding item_in_range
@@ -192,6 +185,30 @@ nothing_by l = rw (strongest_of l mode.None, armed_in_lem l) (go (some_armed mod
     go false true = refl
     go false false = refl
 
+-- The code asks both by == of modes, which is is_mode.
+abbrev same_mode : Mode → Mode → Bool
+same_mode m n = sameb the_type m n
+
+same_mode_lem : (m n : Mode) → same_mode m n ≡ is_mode m n
+same_mode_lem mode.None mode.None = refl
+same_mode_lem mode.None mode.Notify = refl
+same_mode_lem mode.None mode.Interrupted = refl
+same_mode_lem mode.Notify mode.None = refl
+same_mode_lem mode.Notify mode.Notify = refl
+same_mode_lem mode.Notify mode.Interrupted = refl
+same_mode_lem mode.Interrupted mode.None = refl
+same_mode_lem mode.Interrupted mode.Notify = refl
+same_mode_lem mode.Interrupted mode.Interrupted = refl
+
+abbrev by_mode_in_code : Record → Mode → Relationship
+by_mode_in_code r m = cond (is_held r.hold || same_mode m mode.Interrupted) relationship.Control (cond (same_mode m mode.Notify || (is_pending r.clock1 || is_pending r.clock2)) relationship.Monitor relationship.None)
+
+pub relationship_by_in_code : (r : Record) → by_mode_in_code r (strongest mode.None r.armings) ≡ relationship_of r
+relationship_by_in_code r = let m = strongest mode.None r.armings in rw (same_mode_lem m mode.Interrupted, same_mode_lem m mode.Notify) (relationship_by r)
+
+pub nothing_by_in_code : (l : List Arming) → same_mode (strongest mode.None l) mode.None ≡ nothing_armed l
+nothing_by_in_code l = same_mode_lem (strongest mode.None l) mode.None ∙ nothing_by l
+
 -- ---- loops over the places of a number
 
 place_next : (c d : ℕ) (ds : List ℕ) → places_in_range c (d ∷ ds) ≡ (cond (ltb 0 c) (is_digit d) (eqb d 0) && places_in_range (c - 1) ds)
@@ -221,12 +238,12 @@ used_step l i e h k z = rw (ne_eqb e (i + 1) (λ q. omega arith), drop-cons l i 
 
 -- ---- the kind of call stays: a leg is put in, entries change armings and kept timer alone
 
+-- Cited by no proof any more; docs/PORT.md names it: a record that a charge has left goes on by the points of the one before.
 charged_keeps_kind : (r : Record) (l : Leg) (c : Charge) (t : Tenths) → (charged r l c t).bcsm ≡ r.bcsm
 charged_keeps_kind r One c t = refl
 charged_keeps_kind r Two c t = refl
 
--- so a record that a charge has left goes on by the points of the one before
-pub charged_on : (next r : Record) (l : Leg) (c : Charge) (t : Tenths) (reports : Reports) (deadline : Deadline) → next ≡ charged r l c t
+pub charged_on : (next r : Record) (l : Leg) (c : Charge) (t : Tenths) (reports : Reports) (deadline : Option Tenths) → next ≡ charged r l c t
     → goes_on (set_of next.bcsm) next reports deadline ≡ goes_on (set_of r.bcsm) (charged r l c t) reports deadline
 charged_on next r l c t reports deadline e = rw e (ap (λ b. goes_on (set_of b) (charged r l c t) reports deadline) (charged_keeps_kind r l c t))
 
@@ -236,9 +253,9 @@ unfolding armed_with
 armed_holds dp P h [] r p = p
 armed_holds dp P h (e ∷ es) r p = armed_holds dp P h es (armed_by r (named dp e) e) (go (named dp e))
   where
-    go : (x : Named) → P (armed_by r x e)
-    go Unknown = p
-    go (Known q) = h r _ _ p
+    go : (x : Option Role) → P (armed_by r x e)
+    go None = p
+    go (Some q) = h r _ _ p
 
 pub armed_keeps : (dp : PointSet) {A : Type 0} (f : Record → A) → ((r : Record) (a : List Arming) (k : Seconds) → f (armed_as r a k) ≡ f r) → (es : List Entry) (r : Record) → f (armed_with dp r es) ≡ f r
 armed_keeps dp f h es r = armed_holds dp (λ s. f s ≡ f r) (λ s a k e. h s a k ∙ e) es r refl
@@ -247,19 +264,6 @@ pub entries_keep_kind : (dp : PointSet) (r : Record) (es : List Entry) → (arme
 entries_keep_kind dp r es = armed_keeps dp (λ s. s.bcsm) (λ s a k. refl) es r
 
 -- ---- loops over entries: those from i on begin with entry i
-
--- a good entry names a role, so the store is at the role's place
-see_named : (x : Named) (seen : List Bool) (e : Entry) → is_good x seen e ≡ true → set seen (place_named x) true ≡ seen_after x seen
-see_named Unknown seen e g = absurd (false≢true g)
-see_named (Known p) seen e g = refl
-
--- the record after one entry's stores: where no role is named, they store what was there
-abbrev stored : Record → Named → Entry → Record
-stored r x e = armed_as r (set r.armings (place_named x) (arming_after x e.mode (get_or r.armings (place_named x) unarmed))) (kept_for x e.timer r.kept)
-
-arm_named : (r : Record) (x : Named) (e : Entry) → stored r x e ≡ armed_by r x e
-arm_named r Unknown e = rw (set-get_or r.armings 0 unarmed)
-arm_named r (Known p) e = refl
 
 module _ (dp : PointSet) (n i : ℕ) (t : List ℕ) where
   abbrev from : List Entry
@@ -279,21 +283,30 @@ module _ (dp : PointSet) (n i : ℕ) (t : List ℕ) where
         let k : i * 5 + 5 ≡ (i + 1) * 5 = omega arith in
         rw (e, drop-drop 5 (i * 5) t, k)
 
-    pub good_step : (seen : List Bool) → is_good (named dp entry) seen entry ≡ true → are_good dp (set seen (place_named (named dp entry)) true) next ≡ are_good dp seen from
+    pub unknown_stop : (seen : List Bool) → named dp entry ≡ None → are_good dp seen from ≡ false
     unfolding are_good
-    good_step seen g = rw (see_named (named dp entry) seen entry g, entries_next, g)
+    unknown_stop seen u = rw (entries_next, u)
 
-    pub good_stop : (seen : List Bool) → is_good (named dp entry) seen entry ≡ false → are_good dp seen from ≡ false
-    unfolding are_good
-    good_stop seen g = rw (entries_next, g)
-
-    pub possible_step : (r : Record) (ok : Bool) → (ok && is_possible r (named dp entry) entry.mode && are_possible dp r next) ≡ (ok && are_possible dp r from)
-    unfolding are_possible
-    possible_step r ok = rw (entries_next, and_assoc)
-
-    pub arm_step : (r : Record) → armed_with dp (stored r (named dp entry) entry) next ≡ armed_with dp r from
+    pub arm_none : (r : Record) → named dp entry ≡ None → armed_with dp r next ≡ armed_with dp r from
     unfolding armed_with
-    arm_step r = rw (arm_named r (named dp entry) entry, entries_next)
+    arm_none r u = rw entries_next (ap (λ x. armed_with dp (armed_by r x entry) next) (sym u))
+
+    module _ (p : Role) (k : named dp entry ≡ Some p) where
+      pub good_step : (seen : List Bool) → is_good (Some p) seen entry ≡ true → are_good dp (set seen (place_of p) true) next ≡ are_good dp seen from
+      unfolding are_good
+      good_step seen g = rw (entries_next, k, g)
+
+      pub good_stop : (seen : List Bool) → is_good (Some p) seen entry ≡ false → are_good dp seen from ≡ false
+      unfolding are_good
+      good_stop seen g = rw (entries_next, k, g)
+
+      pub possible_step : (r : Record) (ok : Bool) → (ok && is_possible r (Some p) entry.mode && are_possible dp r next) ≡ (ok && are_possible dp r from)
+      unfolding are_possible
+      possible_step r ok = rw (entries_next, k, and_assoc)
+
+      pub arm_some : (r : Record) → armed_with dp (armed_by r (Some p) entry) next ≡ armed_with dp r from
+      unfolding armed_with
+      arm_some r = rw entries_next (ap (λ x. armed_with dp (armed_by r x entry) next) (sym k))
 
   module _ (h : n ≤ i) where
     entries_end : from ≡ []

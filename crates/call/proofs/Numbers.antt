@@ -5,10 +5,11 @@ use mathlib.Core.Bool.{Bool, true, false, cond, ◌&&◌, ◌||◌, false≢true
 use mathlib.Core.List.{List, [], ◌∷◌, map}
 use lib.Dec.{eqb}
 use borrow.Author.Tests.{eqb-true}
+use Rattle.std.specs.Prelude.{Ok, Err}
 use Rattle.forms.specs.Bytes.{all, contains}
+use Rattle.forms.specs.Refusal.{number_of as refusal_number}
 use Rattle.forms.proofs.ByteLaws.{and_left, and_right}
 use Rattle.call.specs.Types.{Item, Tenths, PointSet, Record, Answer, Stepped, Kind, Opening, Early}
-use Rattle.call.specs.declared.answers.Answer.TheVariants.{Accepted, Refused}
 use Rattle.call.specs.declared.kind.Kind.TheVariants as kind
 use Rattle.forms.specs.Profile.{is_release}
 use Rattle.call.specs.Armings.{mode_at}
@@ -26,15 +27,15 @@ use Rattle.call.proofs.SetupLaws.{AsSetup, setup, other, as_setup, begun_opens, 
 
 -- a refusal's number is one of ns
 abbrev pub is_one_of : List ℕ → Answer → Bool
-is_one_of ns (Refused n) = contains n ns
-is_one_of ns (Accepted o) = true
+is_one_of ns (Err n) = contains (refusal_number n) ns
+is_one_of ns (Ok o) = true
 
 abbrev OneOf : List ℕ → Stepped → Type 0
 OneOf ns s = is_one_of ns s.answer ≡ true
 
 pub accepted_one : (ns : List ℕ) (a : Answer) → is_accepted a ≡ true → is_one_of ns a ≡ true
-accepted_one ns (Accepted o) h = refl
-accepted_one ns (Refused n) h = absurd (false≢true h)
+accepted_one ns (Ok o) h = refl
+accepted_one ns (Err n) h = absurd (false≢true h)
 
 -- what passes for each member of a list passes for the number that the list contains
 contained : (p : ℕ → Bool) (ns : List ℕ) (n : ℕ) → all p ns ≡ true → contains n ns ≡ true → p n ≡ true
@@ -48,21 +49,21 @@ contained p (m ∷ ns) n h k = go (eqb m n) refl (contained p ns n (and_right (p
 
 -- so with more numbers
 pub one_of_more : (ns ms : List ℕ) (a : Answer) → all (λ n. contains n ms) ns ≡ true → is_one_of ns a ≡ true → is_one_of ms a ≡ true
-one_of_more ns ms (Refused n) h k = contained (λ m. contains m ms) ns n h k
-one_of_more ns ms (Accepted o) h k = refl
+one_of_more ns ms (Err n) h k = contained (λ m. contains m ms) ns (refusal_number n) h k
+one_of_more ns ms (Ok o) h k = refl
 
 -- ---- rows with such numbers, and what stands behind them
 
 abbrev numbers : List Row → List ℕ
-numbers = map (λ x. x.number)
+numbers = map (λ x. refusal_number x.refusal)
 
 guarded_one : (ns : List ℕ) (rows : List Row) (r : Record) (s : Stepped) → all (λ n. contains n ns) (numbers rows) ≡ true → OneOf ns s → OneOf ns (guarded (first_of rows) r s)
 unfolding all
 guarded_one ns [] r s h k = k
-guarded_one ns (x ∷ rows) r s h k = go x.applies (guarded_one ns rows r s (and_right (contains x.number ns) _ h) k)
+guarded_one ns (x ∷ rows) r s h k = go x.applies (guarded_one ns rows r s (and_right (contains (refusal_number x.refusal) ns) _ h) k)
   where
-    go : (b : Bool) → OneOf ns (guarded (first_of rows) r s) → OneOf ns (guarded (first_of (record { number = x.number; applies = b } ∷ rows)) r s)
-    go true q = and_left (contains x.number ns) _ h
+    go : (b : Bool) → OneOf ns (guarded (first_of rows) r s) → OneOf ns (guarded (first_of (record { refusal = x.refusal; applies = b } ∷ rows)) r s)
+    go true q = and_left (contains (refusal_number x.refusal) ns) _ h
     go false q = q
 
 -- ---- an item for an open call: its rows, and its answer where none applies
@@ -83,7 +84,7 @@ continued_one dp r t = either (is_present r.leg1 && is_present r.leg2) _ _ (eith
 module _ (dp : PointSet) (r : Record) (t : Tenths) (rest : List ℕ) where
   served_one : (k : Kind) → (all (λ n. contains n respond_numbers) (numbers (rows_of dp r k t rest)) ≡ true) × OneOf respond_numbers (served dp r k t rest)
   unfolding all contains met aborted
-  served_one (kind.Setup b n s w c) = (refl, refl)
+  served_one (kind.Setup s) = (refl, refl)
   served_one (kind.Event e) = let p = role_of e r.stage in (refl, either (ends_call p (mode_at p r.armings) r.hold) _ _ refl refl)
   served_one (kind.PeriodOver l) = (refl, refl)
   served_one (kind.RequestReport n) = (refl, refl)
@@ -118,9 +119,9 @@ pub set_up_numbers_lem : (i : Item) (rest : List ℕ) (o : Opening) → OneOf se
 unfolding set_up_of all contains
 set_up_numbers_lem i rest o = guarded_one set_up_numbers (row1_time i.time ∷ []) blank _ refl (go (as_setup (kind_of i.body)))
   where
-    go : {k : Kind} → AsSetup k → OneOf set_up_numbers (if_setup k (λ b n v w c. begun b o.triggered o.timer o.handling (number_of n c rest) i.time) not_open)
-    go (setup b n v w c) = accepted_one set_up_numbers (begun b o.triggered o.timer o.handling (number_of n c rest) i.time).answer (begun_opens b o.triggered o.timer o.handling (number_of n c rest) i.time).0
-    go (other e) = rw (e Stepped (λ b n v w c. begun b o.triggered o.timer o.handling (number_of n c rest) i.time) not_open)
+    go : {k : Kind} → AsSetup k → OneOf set_up_numbers (if_setup k (λ u. begun u.bcsm o.triggered o.timer o.handling (number_of u.nature u.count rest) i.time) not_open)
+    go (setup u) = accepted_one set_up_numbers (begun u.bcsm o.triggered o.timer o.handling (number_of u.nature u.count rest) i.time).answer (begun_opens u.bcsm o.triggered o.timer o.handling (number_of u.nature u.count rest) i.time).0
+    go (other e) = rw (e Stepped (λ u. begun u.bcsm o.triggered o.timer o.handling (number_of u.nature u.count rest) i.time) not_open)
 
 pub open_numbers_lem : (i : Item) (rest s : List ℕ) → OneOf open_numbers (open_of i rest s)
 unfolding all contains

@@ -11,14 +11,13 @@ use lib.Dec.{eqb, leb}
 use lib.ListN.{get_or}
 use lib.Seq.{set_comm}
 use borrow.Author.Tests.{ltb-false, eqb-true, not-false}
+use Rattle.std.specs.Prelude.{Option, Some, None, Ok}
 use Rattle.forms.specs.Fields.{leg_number}
 use Rattle.forms.specs.Units.{is_timer}
 use Rattle.forms.proofs.ByteLaws.{and_left, and_right}
-use Rattle.call.specs.Types.{Item, Entry, Seconds, Tenths, PointSet, Role, Named, Record, Stepped}
+use Rattle.call.specs.Types.{Item, Entry, Seconds, Tenths, PointSet, Role, Record, Stepped}
 use Rattle.forms.specs.declared.item.Body.TheVariants as body
 use Rattle.call.specs.declared.roles.Role.TheVariants.{NoAnswer}
-use Rattle.call.specs.declared.points.Named.TheVariants.{Unknown, Known}
-use Rattle.call.specs.declared.refusals.Check.TheVariants.{Pass}
 use Rattle.call.specs.declared.kind.Kind.TheVariants as kind
 use Rattle.call.specs.Roles.{place_of, is_role}
 use Rattle.call.specs.Armings.{mode_of}
@@ -47,14 +46,14 @@ kept_swap p q e f k (inr x) (inl y) d = rw y
 kept_swap p q e f k (inr x) (inr y) d = absurd (d (x ∙ sym y))
 
 -- what acceptance tells of an entry
-abbrev Sound : Named → Entry → Type 0
-Sound x e = (p : Role) → x ≡ Known p → Timed p e
+abbrev Sound : Option Role → Entry → Type 0
+Sound x e = (p : Role) → x ≡ Some p → Timed p e
 
-entry_swap : (dp : PointSet) → is_point_set dp ≡ true → (x y : Named) (e f : Entry) → named dp e ≡ x → named dp f ≡ y → Sound x e → Sound y f → Apart e f
+entry_swap : (dp : PointSet) → is_point_set dp ≡ true → (x y : Option Role) (e f : Entry) → named dp e ≡ x → named dp f ≡ y → Sound x e → Sound y f → Apart e f
     → (r : Record) → armed_by (armed_by r x e) y f ≡ armed_by (armed_by r y f) x e
-entry_swap dp fit Unknown y e f h k a b d r = refl
-entry_swap dp fit (Known p) Unknown e f h k a b d r = refl
-entry_swap dp fit (Known p) (Known q) e f h k a b d r =
+entry_swap dp fit None y e f h k a b d r = refl
+entry_swap dp fit (Some p) None e f h k a b d r = refl
+entry_swap dp fit (Some p) (Some q) e f h k a b d r =
     let x = pair_numbers (point_in dp p) e.leg e.point ((role_exactly dp fit p e.leg e.point).0 h) in
     let y = pair_numbers (point_in dp q) f.leg f.point ((role_exactly dp fit q f.leg f.point).0 k) in
     let apart : place_of p ≡ place_of q → ⊥ = λ z. let same = ap (point_in dp) (place_injective p q z) in d (x.0 ∙ ap (λ s. leg_number s.leg) same ∙ sym y.0) (x.1 ∙ ap (λ s. s.number) same ∙ sym y.1) in
@@ -85,15 +84,15 @@ module _ (dp : PointSet) where
   armed_timed : (es : List Entry) (r : Record) (t : Tenths) → armed_with dp (timed r t) es ≡ timed (armed_with dp r es) t
   armed_timed es r t = past (λ s. timed s t) es (λ e m s. go (named dp e) e s) r
     where
-      go : (x : Named) (e : Entry) (s : Record) → armed_by (timed s t) x e ≡ timed (armed_by s x e) t
-      go Unknown e s = refl
-      go (Known p) e s = refl
+      go : (x : Option Role) (e : Entry) (s : Record) → armed_by (timed s t) x e ≡ timed (armed_by s x e) t
+      go None e s = refl
+      go (Some p) e s = refl
 
 -- ---- what acceptance tells
 
-entry_sound : (x : Named) (seen : List Bool) (e : Entry) → is_good x seen e ≡ true → Sound x e
-entry_sound Unknown seen e g p k = absurd (false≢true g)
-entry_sound (Known q) seen e g p k = let same : q ≡ p = cc in rw (← same) (go (eqb e.timer.0 0) (is_role q NoAnswer) (leb e.mode 1) refl refl timer)
+entry_sound : (x : Option Role) (seen : List Bool) (e : Entry) → is_good x seen e ≡ true → Sound x e
+entry_sound None seen e g p k = absurd (false≢true g)
+entry_sound (Some q) seen e g p k = let same : q ≡ p = cc in rw (← same) (go (eqb e.timer.0 0) (is_role q NoAnswer) (leb e.mode 1) refl refl timer)
   where
     timer : (eqb e.timer.0 0 || (is_role q NoAnswer && leb e.mode 1)) ≡ true
     timer = and_right (is_timer e.timer) _ (and_right (is_mode_for q e.mode) _ (and_left _ (not (get_or seen (place_of q) false)) g))
@@ -121,7 +120,7 @@ abbrev rows : PointSet → Record → Request → Tenths → List Row
 rows dp r a t = row1_time t ∷ rows_of dp r (kind.RequestReport a.count) t a.bytes
 
 module _ (dp : PointSet) (n : ℕ) (r : Record) (a : Request) (t : Tenths) (h : is_accepted (asked_in dp n r a t).answer ≡ true) where
-  none_applies : first_of (rows dp r a t) ≡ Pass
+  none_applies : first_of (rows dp r a t) ≡ Ok tt
   unfolding respond_in
   none_applies = not_refused (first_of (rows dp r a t)) r (request_report dp r a.count a.bytes t) h
 

@@ -4,6 +4,7 @@ use mathlib.Core.Path.{◌≡◌, refl, sym, ap, ◌∙◌}
 use mathlib.Core.Bool.{Bool, true, false, not, cond, ◌&&◌, ◌||◌, or-true, true≢false, false≢true}
 use mathlib.Core.List.{List, ◌∷◌}
 use borrow.Author.Tests.{not-false}
+use Rattle.std.specs.Prelude.{Ok}
 use Rattle.forms.specs.Profile.{is_release}
 use Rattle.forms.proofs.ByteLaws.{and_left, and_right}
 use Rattle.call.specs.Types.{Bcsm, Item, Leg, Handling, Seconds, Tenths, PointSet, Role, Event, Mode, Hold, Charge, LegState, Number, Record, Stepped, Kind}
@@ -14,7 +15,6 @@ use Rattle.call.specs.declared.stages.Stage.TheVariants.{Analysing}
 use Rattle.call.specs.declared.armings.Mode.TheVariants as mode
 use Rattle.call.specs.declared.record.Hold.TheVariants as hold
 use Rattle.call.specs.declared.record.Presence.TheVariants.{Absent, Present}
-use Rattle.call.specs.declared.refusals.Check.TheVariants.{Pass}
 use Rattle.call.specs.declared.kind.Kind.TheVariants as kind
 use Rattle.call.specs.Roles.{is_role, loses_leg, met_in}
 use Rattle.call.specs.Armings.{is_mode, mode_at}
@@ -146,9 +146,9 @@ module _ (dp : PointSet) (r : Record) (h : NoOrphan r) where
 
 -- what is served
 module _ (dp : PointSet) (r : Record) (h : NoOrphan r) where
-  served_keeps : (k : Kind) (t : Tenths) (rest : List ℕ) → first_of (rows_of dp r k t rest) ≡ Pass → Keeps (served dp r k t rest)
+  served_keeps : (k : Kind) (t : Tenths) (rest : List ℕ) → first_of (rows_of dp r k t rest) ≡ Ok tt → Keeps (served dp r k t rest)
   unfolding aborted
-  served_keeps (kind.Setup b n s w c) t rest e = λ o. h
+  served_keeps (kind.Setup s) t rest e = λ o. h
   served_keeps (kind.Event x) t rest e = let none = no_row (rows_of dp r (kind.Event x) t rest) e in event_keeps dp r h x t (none 1) (not-false (can_meet dp r (role_of x r.stage)) (none 2))
   served_keeps (kind.PeriodOver l) t rest e = λ o. charged_keeps r h l no_charge t (λ gone. refl)
   served_keeps (kind.RequestReport n) t rest e = λ o. armed_holds dp NoOrphan (λ s a k q. record { leg1 = q.leg1; leg2 = q.leg2; trigger = q.trigger }) (entries_of n rest) (timed r t) (timed_keeps r h t)
@@ -171,7 +171,7 @@ respond_keeps r h i rest =
     let dp = set_of r.bcsm in
     let k = kind_of i.body in
     let rows = rows_of dp r k i.time rest in
-    on_guard Keeps (first_of (row1_time i.time ∷ rows)) r (served dp r k i.time rest) (λ n o. h) (λ e. served_keeps dp r h k i.time rest (passes (row1_time i.time).applies 1 (first_of rows) e).1)
+    on_guard Keeps (first_of (row1_time i.time ∷ rows)) r (served dp r k i.time rest) (λ n o. h) (λ e. served_keeps dp r h k i.time rest (passes (row1_time i.time).applies (row1_time i.time).refusal (first_of rows) e).1)
 
 -- ---- a call that opens
 
@@ -180,4 +180,4 @@ begun_both b true timer handling number t = both _ refl refl refl
 begun_both b false timer handling number t = both _ refl refl refl
 
 pub open_keeps : (i : Item) (rest s : List ℕ) → is_accepted (open_of i rest s).answer ≡ true → NoOrphan (open_of i rest s).next
-open_keeps i rest = on_open i rest (λ s. is_accepted s.answer ≡ true → NoOrphan s.next) (λ m a. absurd (false≢true a)) (λ b n v w c e triggered timer handling number t a. begun_both b triggered timer handling number t)
+open_keeps i rest = on_open i rest (λ s. is_accepted s.answer ≡ true → NoOrphan s.next) (λ m a. absurd (false≢true a)) (λ u e triggered timer handling number t a. begun_both u.bcsm triggered timer handling number t)

@@ -4,21 +4,17 @@ use mathlib.Core.Path.{◌≡◌, refl, sym, ap, subst, ◌∙◌}
 use native.Mathlib.Omega.{arith}
 use mathlib.Core.Bool.{Bool, true, false, cond, ◌&&◌, ◌||◌, or-true}
 use mathlib.Core.List.{List, [], ◌∷◌}
-use mathlib.Core.Option.{Option, none, some}
 use lib.Dec.{eqb}
 use borrow.Author.Tests.{eq-eqb, not-false}
+use Rattle.std.specs.Prelude.{Option, Some, None, Ok, Err}
 use Rattle.forms.specs.Fields.{leg_number}
 use Rattle.forms.specs.Item.{item_of, rest_of}
 use Rattle.forms.proofs.ByteLaws.{and_left, and_right}
-use Rattle.call.specs.Types.{Bcsm, Item, Seconds, Handling, Tenths, Number, Role, Point, PointSet, Named, Mode, Hold, Record, Suspension, Report, Answer, Check, Kind, Stepped, Opening}
-use Rattle.call.specs.declared.points.Named.TheVariants.{Unknown, Known}
-use Rattle.call.specs.declared.refusals.Check.TheVariants.{Pass, Fail}
+use Rattle.call.specs.Types.{Item, Setup, Seconds, Handling, Tenths, Number, Role, Point, PointSet, Mode, Hold, Record, Report, Answer, Check, Kind, Stepped, Opening}
 use Rattle.call.specs.declared.kind.Kind.TheVariants as kind
 use Rattle.call.specs.declared.armings.Mode.TheVariants as mode
 use Rattle.call.specs.declared.record.Hold.TheVariants as hold
-use Rattle.call.specs.declared.answers.Suspension.TheVariants as suspension
 use Rattle.call.specs.declared.answers.Report.TheVariants as report
-use Rattle.call.specs.declared.answers.Answer.TheVariants.{Accepted, Refused}
 use Rattle.call.specs.Roles.{met_in}
 use Rattle.call.specs.Armings.{mode_at}
 use Rattle.call.specs.Points.{set_of, is_leg, point_in, is_in, role_in, is_point_set}
@@ -39,9 +35,9 @@ use Rattle.call.proofs.InRange.{fits}
 
 -- ---- the pairs of an answer
 
-abbrev pub is_known : Named → Bool
-is_known Unknown = false
-is_known (Known p) = true
+abbrev pub is_known : Option Role → Bool
+is_known None = false
+is_known (Some p) = true
 
 abbrev pub is_same : Point → Point → Bool
 is_same q p = is_leg q.leg p.leg && eqb q.number p.number
@@ -50,18 +46,18 @@ is_same q p = is_leg q.leg p.leg && eqb q.number p.number
 abbrev pub belongs : PointSet → Point → Bool
 belongs dp q = is_same q dp.trigger || is_known (role_in dp (leg_number q.leg) q.number)
 
-abbrev pub is_own_suspension : PointSet → Suspension → Bool
-is_own_suspension dp suspension.None = true
-is_own_suspension dp (suspension.At q) = belongs dp q
+abbrev pub is_own_suspension : PointSet → Option Point → Bool
+is_own_suspension dp None = true
+is_own_suspension dp (Some q) = belongs dp q
 
-abbrev pub is_own_report : PointSet → Report → Bool
-is_own_report dp report.None = true
-is_own_report dp (report.Interrupting q) = belongs dp q
-is_own_report dp (report.Notification q) = belongs dp q
+abbrev pub is_own_report : PointSet → Option Report → Bool
+is_own_report dp None = true
+is_own_report dp (Some (report.Interrupting q)) = belongs dp q
+is_own_report dp (Some (report.Notification q)) = belongs dp q
 
 abbrev pub is_own : PointSet → Answer → Bool
-is_own dp (Refused n) = true
-is_own dp (Accepted o) = is_own_suspension dp o.suspension && is_own_report dp o.reports.event
+is_own dp (Err n) = true
+is_own dp (Ok o) = is_own_suspension dp o.suspension && is_own_report dp o.reports.event
 
 abbrev Own : PointSet → Stepped → Type 0
 Own dp s = is_own dp s.answer ≡ true
@@ -75,7 +71,7 @@ module _ (dp : PointSet) (fit : is_point_set dp ≡ true) where
   point_belongs : (p : Role) → is_in dp p ≡ true → belongs dp (point_in dp p) ≡ true
   point_belongs p on =
       let q = point_in dp p in
-      let named : role_in dp (leg_number q.leg) q.number ≡ Known p = (role_exactly dp fit p (leg_number q.leg) q.number).1 (rw (on, eq-eqb (leg_number q.leg) _ refl, eq-eqb q.number _ refl)) in
+      let named : role_in dp (leg_number q.leg) q.number ≡ Some p = (role_exactly dp fit p (leg_number q.leg) q.number).1 (rw (on, eq-eqb (leg_number q.leg) _ refl, eq-eqb q.number _ refl)) in
       rw named (or-true (is_same q dp.trigger))
 
   hold_own : (h : Hold) → hold_in_range dp h ≡ true → is_own_suspension dp (suspension_of dp h) ≡ true
@@ -121,26 +117,26 @@ step_own r i rest =
     on_guard (Own (set_of r.bcsm)) (first_of (row1 i rest ∷ row3 r ∷ [])) r (respond_of r i rest) (λ n. refl)
     (λ e. respond_own r i rest (not-false (record_in_range r) (no_row (row1 i rest ∷ row3 r ∷ []) e 1)))
 
--- a Setup of the kind b
-module _ (i : Item) (rest : List ℕ) (b : Bcsm) (n v : ℕ) (w : Bool) (c : ℕ) (is-setup : kind_of i.body ≡ kind.Setup b n v w c) where
-  begun_own : (triggered : Bool) (timer : Seconds) (handling : Handling) (number : Number) (t : Tenths) → Own (set_of b) (begun b triggered timer handling number t)
-  begun_own true timer handling number t = rw (trigger_belongs (set_of b))
+-- a Setup
+module _ (i : Item) (rest : List ℕ) (u : Setup) (is-setup : kind_of i.body ≡ kind.Setup u) where
+  begun_own : (triggered : Bool) (timer : Seconds) (handling : Handling) (number : Number) (t : Tenths) → Own (set_of u.bcsm) (begun u.bcsm triggered timer handling number t)
+  begun_own true timer handling number t = rw (trigger_belongs (set_of u.bcsm))
   begun_own false timer handling number t = refl
 
-  pub set_up_own : (o : Opening) → is_own (set_of b) (set_up_of i rest o).answer ≡ true
-  set_up_own = on_set_up i rest (Own (set_of b)) (λ m. refl) (of_kind i rest b n v w c is-setup (Own (set_of b)) begun_own)
+  pub set_up_own : (o : Opening) → is_own (set_of u.bcsm) (set_up_of i rest o).answer ≡ true
+  set_up_own = on_set_up i rest (Own (set_of u.bcsm)) (λ m. refl) (of_kind i rest u is-setup (Own (set_of u.bcsm)) begun_own)
 
-  pub open_own : (s : List ℕ) → is_own (set_of b) (open_of i rest s).answer ≡ true
-  open_own = on_open i rest (Own (set_of b)) (λ m. refl) (of_kind i rest b n v w c is-setup (Own (set_of b)) begun_own)
+  pub open_own : (s : List ℕ) → is_own (set_of u.bcsm) (open_of i rest s).answer ≡ true
+  open_own = on_open i rest (Own (set_of u.bcsm)) (λ m. refl) (of_kind i rest u is-setup (Own (set_of u.bcsm)) begun_own)
 
 -- ---- a call by itself, with which demand 3 compares the table; whatever bytes it is fed
 
 -- a record that is kept is the old one, or the next of an accepted item that does not end the call
-kept_by_lem : (P : Record → Type 0) (k : Option Record) (a : Answer) (next kept : Record) → (k ≡ some kept → P kept) → (is_accepted a ≡ true → is_over a ≡ false → P next) → remains a k none (some next) ≡ some kept → P kept
-kept_by_lem P k (Refused n) next kept old new e = old e
-kept_by_lem P k (Accepted o) next kept old new e = go o.over refl e
+kept_by_lem : (P : Record → Type 0) (k : Option Record) (a : Answer) (next kept : Record) → (k ≡ Some kept → P kept) → (is_accepted a ≡ true → is_over a ≡ false → P next) → remains a k None (Some next) ≡ Some kept → P kept
+kept_by_lem P k (Err n) next kept old new e = old e
+kept_by_lem P k (Ok o) next kept old new e = go o.over refl e
   where
-    go : (b : Bool) → o.over ≡ b → cond b none (some next) ≡ some kept → P kept
+    go : (b : Bool) → o.over ≡ b → cond b None (Some next) ≡ Some kept → P kept
     go true h e = absurd (let z : ◌≡◌ {A = ℕ} 0 1 = cc in omega arith)
     go false h e = let same : next ≡ kept = cc in subst P same (new refl h)
 
@@ -152,41 +148,41 @@ module _ (item profile : List ℕ) where
   rest = rest_of i.body item
 
   -- an open call that stays open is of the same kind
-  pub alone_kind : (r kept : Record) → (alone_step (some r) item profile).1 ≡ some kept → kept.bcsm ≡ r.bcsm
+  pub alone_kind : (r kept : Record) → (alone_step (Some r) item profile).1 ≡ Some kept → kept.bcsm ≡ r.bcsm
   unfolding alone_step
   alone_kind r kept = go (first_of (early_rows_in item profile)) (is_setup i)
     where
-      old : some r ≡ some kept → kept.bcsm ≡ r.bcsm
+      old : Some r ≡ Some kept → kept.bcsm ≡ r.bcsm
       old e = let same : r ≡ kept = cc in ap (λ s. s.bcsm) (sym same)
 
-      go : (c : Check) (b : Bool) → (unless_refused c (some r) (cond b (setup_alone (some r) i rest profile) (other_alone (some r) i rest))).1 ≡ some kept → kept.bcsm ≡ r.bcsm
-      go (Fail n) b = old
-      go Pass true = old
-      go Pass false = let s = respond_of r i rest in kept_by_lem (λ x. x.bcsm ≡ r.bcsm) (some r) s.answer s.next kept old (λ a. kind_kept r i rest)
+      go : (c : Check) (b : Bool) → (unless_refused c (Some r) (cond b (setup_alone (Some r) i rest profile) (other_alone (Some r) i rest))).1 ≡ Some kept → kept.bcsm ≡ r.bcsm
+      go (Err n) b = old
+      go (Ok tt) true = old
+      go (Ok tt) false = let s = respond_of r i rest in kept_by_lem (λ x. x.bcsm ≡ r.bcsm) (Some r) s.answer s.next kept old (λ a. kind_kept r i rest)
 
   -- its answers name its own points
-  pub alone_own : (r : Record) → record_in_range r ≡ true → is_own (set_of r.bcsm) (alone_step (some r) item profile).0 ≡ true
+  pub alone_own : (r : Record) → record_in_range r ≡ true → is_own (set_of r.bcsm) (alone_step (Some r) item profile).0 ≡ true
   unfolding alone_step
   alone_own r h = go (first_of (early_rows_in item profile)) (is_setup i)
     where
-      go : (c : Check) (b : Bool) → is_own (set_of r.bcsm) (unless_refused c (some r) (cond b (setup_alone (some r) i rest profile) (other_alone (some r) i rest))).0 ≡ true
-      go (Fail n) b = refl
-      go Pass true = refl
-      go Pass false = respond_own r i rest h
+      go : (c : Check) (b : Bool) → is_own (set_of r.bcsm) (unless_refused c (Some r) (cond b (setup_alone (Some r) i rest profile) (other_alone (Some r) i rest))).0 ≡ true
+      go (Err n) b = refl
+      go (Ok tt) true = refl
+      go (Ok tt) false = respond_own r i rest h
 
   -- and so does the answer that opens it
-  pub opened_own : (kept : Record) → (alone_step none item profile).1 ≡ some kept → is_own (set_of kept.bcsm) (alone_step none item profile).0 ≡ true
+  pub opened_own : (kept : Record) → (alone_step None item profile).1 ≡ Some kept → is_own (set_of kept.bcsm) (alone_step None item profile).0 ≡ true
   unfolding alone_step
   opened_own kept = go (first_of (early_rows_in item profile)) (as_setup (kind_of i.body)) refl
     where
-      absent : none ≡ some kept → {A : Type 0} → A
+      absent : None ≡ Some kept → {A : Type 0} → A
       absent e = absurd (let z : ◌≡◌ {A = ℕ} 0 1 = cc in omega arith)
 
       go : (c : Check) {k : Kind} → AsSetup k → kind_of i.body ≡ k
-          → (unless_refused c none (cond (is_setup i) (setup_alone none i rest profile) (other_alone none i rest))).1 ≡ some kept
-          → is_own (set_of kept.bcsm) (unless_refused c none (cond (is_setup i) (setup_alone none i rest profile) (other_alone none i rest))).0 ≡ true
-      go (Fail n) x e = λ f. absent f
-      go Pass (setup b n v w c) e =
+          → (unless_refused c None (cond (is_setup i) (setup_alone None i rest profile) (other_alone None i rest))).1 ≡ Some kept
+          → is_own (set_of kept.bcsm) (unless_refused c None (cond (is_setup i) (setup_alone None i rest profile) (other_alone None i rest))).0 ≡ true
+      go (Err n) x e = λ f. absent f
+      go (Ok tt) (setup u) e =
           let s = open_of i rest profile in
-          rw e (kept_by_lem (λ x. is_own (set_of x.bcsm) s.answer ≡ true) none s.answer s.next kept (λ f. absent f) (λ a o. rw (open_kind i rest b n v w c e profile a) (open_own i rest b n v w c e profile)))
-      go Pass (other g) e = rw (e, g Bool (λ b n v w c. true) false) (λ f. absent f)
+          rw e (kept_by_lem (λ x. is_own (set_of x.bcsm) s.answer ≡ true) None s.answer s.next kept (λ f. absent f) (λ a o. rw (open_kind i rest u e profile a) (open_own i rest u e profile)))
+      go (Ok tt) (other g) e = rw (e, g Bool (λ u. true) false) (λ f. absent f)

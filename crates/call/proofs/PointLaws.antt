@@ -8,8 +8,9 @@ use native.Mathlib.Numerals.{add-one}
 use native.Mathlib.Omega.{arith}
 use lib.Dec.{eqb, ltb}
 use lib.ListN.{length, get_or, drop, set, length-set, drop_of_length-le}
-use lib.Seq.{drop-cons, get_or-set_other, set-get_or}
+use lib.Seq.{drop-cons, get_or-set_other}
 use borrow.Author.Tests.{eqb-true, eqb-false, ltb-true, not-true}
+use Rattle.std.specs.Prelude.{Some, None}
 use Rattle.forms.specs.Fields.{leg_number}
 use Rattle.forms.proofs.ByteLaws.{and_left, and_right}
 use Rattle.forms.specs.declared.item.Bcsm.TheVariants.{Originating, Terminating}
@@ -19,7 +20,6 @@ use Rattle.call.specs.declared.roles.Role.TheVariants as role
 use Rattle.call.specs.declared.stages.Stage.TheVariants.{Active}
 use Rattle.call.specs.declared.armings.Mode.TheVariants as mode
 use Rattle.call.specs.declared.record.Hold.TheVariants as hold
-use Rattle.call.specs.declared.points.Named.TheVariants.{Unknown, Known}
 use Rattle.call.specs.Roles.{met_in, loses_leg, roles, place_of, is_role, is_among, every}
 use Rattle.call.specs.Armings.{is_mode, unarmed, mode_at, disarmed}
 use Rattle.call.specs.Points.{set_of, is_point, is_pair, is_leg, first_role, picked, point_in, is_in, role_in, is_on_leg, leaves, on_leg, disarms, leg_fits, number_fits, has_own_pair, is_point_set}
@@ -79,31 +79,22 @@ abbrev pub below : ℕ → (ℕ → Bool) → Bool
 below zero f = true
 below (suc n) f = f zero && below n (λ i. f (suc i))
 
-below_at : (n : ℕ) (f : ℕ → Bool) → below n f ≡ true → (i : ℕ) → i < n → f i ≡ true
-below_at zero f h i l = absurd (omega arith)
-below_at (suc n) f h zero l = and_left (f zero) _ h
-below_at (suc n) f h (suc i) l = below_at n (λ j. f (suc j)) (and_right (f zero) _ h) i (omega arith)
-
--- the place of the role at a place
-role_place : (i : ℕ) → i < 10 → place_of (get_or roles i role.MidCall) ≡ i
-role_place i l = eqb-true _ _ (below_at 10 (λ j. eqb (place_of (get_or roles j role.MidCall)) j) refl i l)
-
 -- ---- roles found and picked by a test
 
-first_holds : (f : Role → Bool) (ps : List Role) (p : Role) → first_role f ps ≡ Known p → f p ≡ true
+first_holds : (f : Role → Bool) (ps : List Role) (p : Role) → first_role f ps ≡ Some p → f p ≡ true
 first_holds f [] p h = absurd (let z : ◌≡◌ {A = ℕ} 0 1 = cc in omega arith)
 first_holds f (q ∷ ps) p h = go (f q) refl (first_holds f ps p) h
   where
-    go : (b : Bool) → f q ≡ b → (first_role f ps ≡ Known p → f p ≡ true) → cond b (Known q) (first_role f ps) ≡ Known p → f p ≡ true
+    go : (b : Bool) → f q ≡ b → (first_role f ps ≡ Some p → f p ≡ true) → cond b (Some q) (first_role f ps) ≡ Some p → f p ≡ true
     go true e ih k = let same : q ≡ p = cc in ap f (sym same) ∙ e
     go false e ih k = ih k
 
-first_only : (f : Role → Bool) (p : Role) → f p ≡ true → ((q : Role) → f q ≡ true → q ≡ p) → (ps : List Role) → is_among p ps ≡ true → first_role f ps ≡ Known p
+first_only : (f : Role → Bool) (p : Role) → f p ≡ true → ((q : Role) → f q ≡ true → q ≡ p) → (ps : List Role) → is_among p ps ≡ true → first_role f ps ≡ Some p
 first_only f p h u [] m = absurd (false≢true m)
 first_only f p h u (q ∷ ps) m = go (f q) refl (is_role p q) refl (first_only f p h u ps) m
   where
-    go : (b : Bool) → f q ≡ b → (r : Bool) → is_role p q ≡ r → (is_among p ps ≡ true → first_role f ps ≡ Known p) → (r || is_among p ps) ≡ true → cond b (Known q) (first_role f ps) ≡ Known p
-    go true e r k ih n = ap Known (u q e)
+    go : (b : Bool) → f q ≡ b → (r : Bool) → is_role p q ≡ r → (is_among p ps ≡ true → first_role f ps ≡ Some p) → (r || is_among p ps) ≡ true → cond b (Some q) (first_role f ps) ≡ Some p
+    go true e r k ih n = ap Some (u q e)
     go false e true k ih n = absurd (true≢false (sym h ∙ ap f (same_role p q k) ∙ e))
     go false e false k ih n = ih n
 
@@ -166,28 +157,25 @@ pub roles_end : (i : ℕ) → 10 ≤ i → drop i roles ≡ []
 roles_end i h = drop_of_length-le roles h
 
 -- the first role that passes a test: those from the place i on decide. The role there does, or those after it
-pub first_here : (f : Role → Bool) (i : ℕ) → i < 10 → f (get_or roles i role.MidCall) ≡ true → first_role f (drop i roles) ≡ Known (get_or roles i role.MidCall)
+pub first_here : (f : Role → Bool) (i : ℕ) → i < 10 → f (get_or roles i role.MidCall) ≡ true → first_role f (drop i roles) ≡ Some (get_or roles i role.MidCall)
 first_here f i l h = rw (roles_from i l, h)
 
 pub first_after : (f : Role → Bool) (i : ℕ) → i < 10 → f (get_or roles i role.MidCall) ≡ false → first_role f (drop (i + 1) roles) ≡ first_role f (drop i roles)
 first_after f i l h = rw (roles_from i l, h)
 
 -- or none
-pub first_none : (f : Role → Bool) (i : ℕ) → 10 ≤ i → first_role f (drop i roles) ≡ Unknown
+pub first_none : (f : Role → Bool) (i : ℕ) → 10 ≤ i → first_role f (drop i roles) ≡ None
 first_none f i h = rw (roles_end i h)
 
--- a leg's roles: those from the place i on are left to disarm; one arming, stored where it stands
-pub leg_step : (dp : PointSet) (leg : Leg) (i : ℕ) → i < 10 → (a : List Arming)
-    → disarmed (picked (λ p. is_on_leg dp p leg) (drop (i + 1) roles)) (set a i (cond (is_on_leg dp (get_or roles i role.MidCall) leg) unarmed (get_or a i unarmed)))
-    ≡ disarmed (picked (λ p. is_on_leg dp p leg) (drop i roles)) a
-leg_step dp leg i l a = rw (roles_from i l) (go (is_on_leg dp (get_or roles i role.MidCall) leg))
-  where
-    rest : List Role
-    rest = picked (λ p. is_on_leg dp p leg) (drop (i + 1) roles)
+-- a leg's roles: those from the place i on are left to disarm. The role there is one of them, and its arming goes
+pub leg_hit : (dp : PointSet) (leg : Leg) (i : ℕ) → i < 10 → (a : List Arming) → is_on_leg dp (get_or roles i role.MidCall) leg ≡ true
+    → disarmed (picked (λ p. is_on_leg dp p leg) (drop (i + 1) roles)) (set a (place_of (get_or roles i role.MidCall)) unarmed) ≡ disarmed (picked (λ p. is_on_leg dp p leg) (drop i roles)) a
+leg_hit dp leg i l a h = rw (roles_from i l, h)
 
-    go : (b : Bool) → disarmed rest (set a i (cond b unarmed (get_or a i unarmed))) ≡ disarmed (cond b (get_or roles i role.MidCall ∷ rest) rest) a
-    go true = ap (λ n. disarmed rest (set a n unarmed)) (sym (role_place i l))
-    go false = rw (set-get_or a i unarmed)
+-- or it is not
+pub leg_missed : (dp : PointSet) (leg : Leg) (i : ℕ) → i < 10 → (a : List Arming) → is_on_leg dp (get_or roles i role.MidCall) leg ≡ false
+    → disarmed (picked (λ p. is_on_leg dp p leg) (drop (i + 1) roles)) a ≡ disarmed (picked (λ p. is_on_leg dp p leg) (drop i roles)) a
+leg_missed dp leg i l a h = rw (roles_from i l, h)
 
 -- ---- legs and pairs
 
@@ -260,7 +248,7 @@ module _ (dp : PointSet) (fit : is_point_set dp ≡ true) where
       go false false k m = absurd (false≢true k)
 
   -- two numbers name a role exactly if they are its pair
-  pub role_exactly : (p : Role) (l n : ℕ) → (role_in dp l n ≡ Known p) ↔ (is_pair (point_in dp p) l n ≡ true)
+  pub role_exactly : (p : Role) (l n : ℕ) → (role_in dp l n ≡ Some p) ↔ (is_pair (point_in dp p) l n ≡ true)
   role_exactly p l n = (
     first_holds (λ q. is_pair (point_in dp q) l n) roles p,
     λ h. first_only (λ q. is_pair (point_in dp q) l n) p h (λ q g. own_pair p q l n h g) roles (every_role (λ q. is_among q roles) refl p),

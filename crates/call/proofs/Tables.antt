@@ -4,33 +4,31 @@ use Prim.Native.Nat.{ℕ, zero, suc}
 use mathlib.Core.Path.{◌≡◌, refl}
 use mathlib.Core.Bool.{Bool, true, false, cond}
 use mathlib.Core.List.{List, [], ◌∷◌, ◌++◌, map, flatten}
-use mathlib.Core.Option.{Option, none, some}
 use lib.ListN.{length, set, replicate}
+use Rattle.std.specs.Prelude.{Option, Some, None, Ok, Err}
 use Rattle.forms.specs.Bytes.{pad, all, contains, leads, same}
 use Rattle.forms.specs.Fields.{leg_number}
-use Rattle.forms.specs.Item.{item_in_range, entry_bytes, entry_of}
+use Rattle.forms.specs.Refusal.{number_of as refusal_number}
+use Rattle.forms.specs.Item.{setup_of, item_in_range, entry_bytes, entry_of}
 use Rattle.forms.specs.Profile.{Profile, fields_of, profile_bytes, profile_in_range, numbers_at, numbers_end, view_at, profile_of, is_profile, some_matches}
 use Rattle.forms.specs.declared.profile.Criterion.TheVariants as A
 use Rattle.forms.specs.declared.item.Bcsm.TheVariants.{Originating, Terminating}
 use Rattle.forms.specs.declared.item.Leg.TheVariants.{One, Two}
 use Rattle.forms.specs.declared.item.Body.TheVariants as B
 use Rattle.forms.specs.declared.profile.Handling.TheVariants as D
-use Rattle.call.specs.Types.{Bcsm, Body, Criterion, Handling, Leg, Role, Point, PointSet, Named, Stage, Presence, Mode, Arming, Hold, Clock, Charge, LegState, Number, Record, Report, ChargeReport, Deadline, Answer, Stepped}
+use Rattle.call.specs.Types.{Bcsm, Body, Criterion, Handling, Leg, Role, Point, PointSet, Stage, Presence, Mode, Arming, Hold, Clock, Charge, LegState, Number, Record, Report, Answer, Stepped}
 use Rattle.call.specs.declared.roles.Role.TheVariants as P
-use Rattle.call.specs.declared.points.Named.TheVariants.{Unknown, Known}
 use Rattle.call.specs.declared.stages.Stage.TheVariants.{Analysing, Alerting, Active}
 use Rattle.call.specs.declared.record.Presence.TheVariants.{Absent, Present}
 use Rattle.call.specs.declared.armings.Mode.TheVariants as M
 use Rattle.call.specs.declared.record.Hold.TheVariants as H
 use Rattle.call.specs.declared.record.Clock.TheVariants as K
 use Rattle.call.specs.declared.answers.Report.TheVariants as R
-use Rattle.call.specs.declared.charging.ChargeReport.TheVariants as C
-use Rattle.call.specs.declared.answers.Deadline.TheVariants as L
-use Rattle.call.specs.declared.answers.Answer.TheVariants.{Accepted, Refused}
 use Rattle.call.specs.Roles.{roles}
 use Rattle.call.specs.Armings.{mode_at, unarmed, mode_of, is_mode, some_armed}
 use Rattle.call.specs.Points.{set_of, point_in, role_in, is_point_set}
 use Rattle.call.specs.Record.{places, blank, leg_at}
+use Rattle.call.specs.Answers.{tenths_in}
 use Rattle.call.specs.Trigger.{triggers}
 use Rattle.call.specs.Request.{entries_of, are_good, are_possible, armed_with}
 use Rattle.call.specs.Events.{met}
@@ -66,9 +64,9 @@ pairs Originating = 8 ╱ 1 ∷ 9 ╱ 1 ∷ 10 ╱ 1 ∷ 50 ╱ 1 ∷ 4 ╱ 2 �
 pairs Terminating = 16 ╱ 2 ∷ 17 ╱ 1 ∷ 18 ╱ 1 ∷ 51 ╱ 2 ∷ 13 ╱ 2 ∷ 14 ╱ 2 ∷ 15 ╱ 2 ∷ 17 ╱ 2 ∷ 27 ╱ 2 ∷ []
 
 -- of all points that a byte can be, 255 first, and the legs 0 to 3, these name a role, and no other
-abbrev known : Named → ℕ × ℕ → List ((ℕ × ℕ) × Role) → List ((ℕ × ℕ) × Role)
-known Unknown x l = l
-known (Known p) x l = (x, p) ∷ l
+abbrev known : Option Role → ℕ × ℕ → List ((ℕ × ℕ) × Role) → List ((ℕ × ℕ) × Role)
+known None x l = l
+known (Some p) x l = (x, p) ∷ l
 
 unfoldable pub named_below : Bcsm → ℕ → ℕ → List ((ℕ × ℕ) × Role) → List ((ℕ × ℕ) × Role)
 named_below b leg zero l = l
@@ -179,8 +177,8 @@ item r b = asked 1000 r b []
 
 -- the refusal's number, 0 for none
 abbrev refusal : Answer → ℕ
-refusal (Refused n) = n
-refusal (Accepted o) = 0
+refusal (Err n) = refusal_number n
+refusal (Ok o) = 0
 
 -- refused; or accepted, with the pair that is reported
 pub data Said : Type 0 where
@@ -189,14 +187,14 @@ pub data Said : Type 0 where
   interrupts : ℕ × ℕ → Said
   notifies : ℕ × ℕ → Said
 
-abbrev told : Report → Said
-told R.None = silent
-told (R.Interrupting q) = interrupts (pair_of q)
-told (R.Notification q) = notifies (pair_of q)
+abbrev told : Option Report → Said
+told None = silent
+told (Some (R.Interrupting q)) = interrupts (pair_of q)
+told (Some (R.Notification q)) = notifies (pair_of q)
 
 abbrev said : Answer → Said
-said (Refused n) = refuses n
-said (Accepted o) = told o.reports.event
+said (Err n) = refuses (refusal_number n)
+said (Ok o) = told o.reports.event
 
 -- ---- events
 
@@ -337,8 +335,8 @@ met_keeps = refl
 
 -- "report by its mode if armed …; none if unarmed"; "If a leg became absent and the mode was not 0, the call is over": each event unarmed and armed for notification, and whether it ends the call
 abbrev is_over : Answer → Bool
-is_over (Refused n) = false
-is_over (Accepted o) = o.over
+is_over (Err n) = false
+is_over (Ok o) = o.over
 
 abbrev seen_in : Mode → Bcsm → List (Said × Bool)
 seen_in m b = zipped (λ (s : Stage) (e : Body). let a = (item (at b s H.None (armed b m)) e).answer in (said a, is_over a)) stages events
@@ -366,13 +364,9 @@ pub record Billed : Type 0 where
   pub reported : List (Option ℕ)
   pub left : List Charge
 
-abbrev elapsed : ChargeReport → Option ℕ
-elapsed C.None = none
-elapsed (C.Elapsed t) = some t.0
-
 abbrev reported_in : Answer → List (Option ℕ)
-reported_in (Refused n) = []
-reported_in (Accepted o) = elapsed o.reports.charge1 ∷ elapsed o.reports.charge2 ∷ []
+reported_in (Err n) = []
+reported_in (Ok o) = tenths_in o.reports.charge1 ∷ tenths_in o.reports.charge2 ∷ []
 
 abbrev billed_in : Stepped → Billed
 billed_in s = record { reported = reported_in s.answer; left = (leg_at One s.next).charge ∷ (leg_at Two s.next).charge ∷ [] }
@@ -388,22 +382,22 @@ pub charges_held :
     map (λ (b : Bcsm). zipped (λ (s : Stage) (e : Body). billed_in (item (charging b (interrupting b) s) e)) stages events) kinds
     ≡ map
     (λ (failure : Billed). failure
-    ∷ bills none (some 0) (runs 600 900) uncharged
-    ∷ bills none (some 0) (runs 600 900) uncharged
-    ∷ bills none none (runs 600 900) (waits 600)
-    ∷ bills none none (runs 600 900) (runs 600 1000)
-    ∷ bills none none (runs 600 900) (waits 600)
-    ∷ bills none none (runs 600 900) (waits 600)
-    ∷ bills (some 100) none uncharged (waits 600)
-    ∷ bills none (some 0) (runs 600 900) uncharged
+    ∷ bills None (Some 0) (runs 600 900) uncharged
+    ∷ bills None (Some 0) (runs 600 900) uncharged
+    ∷ bills None None (runs 600 900) (waits 600)
+    ∷ bills None None (runs 600 900) (runs 600 1000)
+    ∷ bills None None (runs 600 900) (waits 600)
+    ∷ bills None None (runs 600 900) (waits 600)
+    ∷ bills (Some 100) None uncharged (waits 600)
+    ∷ bills None (Some 0) (runs 600 900) uncharged
     ∷ [])
-    (bills none (some 0) (runs 600 900) uncharged ∷ record { reported = []; left = runs 600 900 ∷ waits 600 ∷ [] } ∷ [])
+    (bills None (Some 0) (runs 600 900) uncharged ∷ record { reported = []; left = runs 600 900 ∷ waits 600 ∷ [] } ∷ [])
 unfolding some_armed met respond_in
 charges_held = refl
 
 pub charges_over :
     map (λ (b : Bcsm). map (λ (e : Body). billed_in (item (charging b (armed b M.Notify) Active) e)) (B.Clear One 16 ∷ B.Clear Two 16 ∷ [])) kinds
-    ≡ replicate 2 (replicate 2 (bills (some 100) (some 0) uncharged uncharged))
+    ≡ replicate 2 (replicate 2 (bills (Some 100) (Some 0) uncharged uncharged))
 unfolding some_armed met respond_in
 charges_over = refl
 
@@ -424,7 +418,7 @@ cleared b l stage place one h =
 abbrev holds : Bcsm → ℕ × ℕ → LegState → ℕ × ℕ → List (Said × Bool × Left × Billed)
 holds b met one h =
     let left = leaves (of_leg1 b) (leg_in 1 one.presence) Active in
-    let bill = bills none (some 50) one.charge uncharged in
+    let bill = bills None (Some 50) one.charge uncharged in
     (interrupts met, false, left (met ∷ []), bill) ∷ (notifies met, false, left (h ∷ []), bill) ∷ (silent, false, left (h ∷ []), bill) ∷ []
 
 -- held at Answer and at Mid-call; held at Disconnect of leg 1, which is gone
@@ -440,8 +434,8 @@ held_clear_of_2 = refl
 abbrev moves_or_ends : Bcsm → Stage → ℕ × ℕ → List (Said × Bool × Left × Billed)
 moves_or_ends b s met =
     let left = leaves [] [] Analysing [] in
-    let bill = bills (some 100) (some 50) uncharged uncharged in
-    (interrupts met, false, leaves (of_leg2 b) (2 ∷ []) s (met ∷ []), bills (some 100) none uncharged (runs 600 950)) ∷ (notifies met, true, left, bill) ∷ (silent, true, left, bill) ∷ []
+    let bill = bills (Some 100) (Some 50) uncharged uncharged in
+    (interrupts met, false, leaves (of_leg2 b) (2 ∷ []) s (met ∷ []), bills (Some 100) None uncharged (runs 600 950)) ∷ (notifies met, true, left, bill) ∷ (silent, true, left, bill) ∷ []
 
 -- held at Seized, alerting; held at Answer, active
 pub held_clear_of_1 :
@@ -456,7 +450,7 @@ held_clear_of_1 = refl
 
 pub elapsed_edges :
     map (λ (t : ℕ). reported_in (asked t (with Originating Active (present (runs 600 900)) (present uncharged) H.None 900 nothing 0 (to (4 ∷ 9 ∷ []))) (B.Clear One 16) []).answer) (900 ∷ 901 ∷ 1499 ∷ 1500 ∷ 1501 ∷ [])
-    ≡ (some 0 ∷ none ∷ []) ∷ (some 1 ∷ none ∷ []) ∷ (some 599 ∷ none ∷ []) ∷ (some 600 ∷ none ∷ []) ∷ (some 600 ∷ none ∷ []) ∷ []
+    ≡ (Some 0 ∷ None ∷ []) ∷ (Some 1 ∷ None ∷ []) ∷ (Some 599 ∷ None ∷ []) ∷ (Some 600 ∷ None ∷ []) ∷ (Some 600 ∷ None ∷ []) ∷ []
 unfolding some_armed met respond_in
 elapsed_edges = refl
 
@@ -553,7 +547,7 @@ named_twice = refl
 -- Setup of both kinds; the nine events; Period over of leg 1 and leg 2; Request report, for Disconnect of leg 2; Continue, Connect, Release; Apply charging for leg 1 and leg 2; Activity test, Abort
 abbrev asks : ℕ → ℕ → Record → List ℕ
 asks disconnect t r =
-    map (λ (e : Body). refusal (asked t r e []).answer) (map (λ (b : Bcsm). B.Setup b 4 0 false 2) kinds ++ events ++ (B.PeriodOver One ∷ B.PeriodOver Two ∷ []))
+    map (λ (e : Body). refusal (asked t r e []).answer) (map (λ (b : Bcsm). B.Setup (setup_of b 4 0 false 2)) kinds ++ events ++ (B.PeriodOver One ∷ B.PeriodOver Two ∷ []))
     ++ (refusal (asked t r (B.RequestReport 1) (entry (disconnect ╱ 2) 1 0)).answer
     ∷ map (λ (e : Body). refusal (asked t r e (4 ∷ 6 ∷ [])).answer) (B.Continue ∷ B.Connect 4 2 ∷ B.Release ∷ B.ApplyCharging One (record { 0 = 600 }) ∷ B.ApplyCharging Two (record { 0 = 600 }) ∷ B.ActivityTest ∷ B.Abort ∷ []))
 
@@ -607,12 +601,8 @@ refusals = refl
 -- ---- what the operations and Period over leave, field by field: the deadline and the next record
 
 abbrev deadline_in : Answer → Option ℕ
-deadline_in (Refused n) = none
-deadline_in (Accepted o) = go o.deadline
-  where
-    go : Deadline → Option ℕ
-    go L.None = none
-    go (L.At t) = some t.0
+deadline_in (Err n) = None
+deadline_in (Ok o) = tenths_in o.deadline
 
 abbrev after : ℕ → Record → Body → List ℕ → Option ℕ × Record
 after t r b rest = let s = asked t r b rest in (deadline_in s.answer, s.next)
@@ -658,20 +648,20 @@ operations b busy no_answer abandon =
 -- and these are wanted, T-04: the kind of call stays
 abbrev leave : Bcsm → List (Option ℕ × Record)
 leave b =
-    (none, with b Analysing (present (waits 600)) (present (waits 700)) H.Trigger 1010 (set (set armings 6 (record { mode = M.Notify })) 2 (record { mode = M.Interrupted })) 40 (to (4 ∷ 9 ∷ [])))
-    ∷ (none, with b Analysing (present (waits 600)) (present (waits 700)) H.Trigger 1010 (only 6 M.Interrupted) 30 (to (4 ∷ 9 ∷ [])))
-    ∷ (some 1310, with b Analysing (present (waits 600)) (present (waits 700)) H.None 1010 armings 0 (to (4 ∷ 9 ∷ [])))
-    ∷ (none, with b Active (present uncharged) (present uncharged) H.None 1010 armings 0 (to (4 ∷ 9 ∷ [])))
-    ∷ (some 1310, with b Analysing (present (waits 600)) (present (waits 700)) H.None 1010 armings 0 (record { nature = 3; count = 1; digits = pad places (6 ∷ []) }))
-    ∷ (some 1310, with b Analysing (present (runs 600 900)) (present uncharged) H.None 1010 armings 0 (record { nature = 3; count = 1; digits = pad places (6 ∷ []) }))
-    ∷ (none, blank)
-    ∷ (none, blank)
-    ∷ (none, with b Analysing (present (waits 600)) (present (waits 700)) H.Trigger 1010 armings 30 (to (4 ∷ 9 ∷ [])))
-    ∷ (some 2210, with b Analysing (present uncharged) (present uncharged) H.None 1010 nothing 0 (to (4 ∷ 9 ∷ [])))
-    ∷ (none, with b Active (present uncharged) (present uncharged) H.None 1010 nothing 0 (to (4 ∷ 9 ∷ [])))
-    ∷ (none, with b Alerting (present (waits 600)) (present uncharged) (H.At P.Seized) 1010 armings 0 (to (4 ∷ 9 ∷ [])))
-    ∷ (none, with b Active (present uncharged) (present (runs 700 1010)) (H.At P.Answer) 1010 armings 0 (to (4 ∷ 9 ∷ [])))
-    ∷ (none, with b Active (present uncharged) gone (H.At P.Disconnect2) 1500 armings 30 (to (4 ∷ 9 ∷ [])))
+    (None, with b Analysing (present (waits 600)) (present (waits 700)) H.Trigger 1010 (set (set armings 6 (record { mode = M.Notify })) 2 (record { mode = M.Interrupted })) 40 (to (4 ∷ 9 ∷ [])))
+    ∷ (None, with b Analysing (present (waits 600)) (present (waits 700)) H.Trigger 1010 (only 6 M.Interrupted) 30 (to (4 ∷ 9 ∷ [])))
+    ∷ (Some 1310, with b Analysing (present (waits 600)) (present (waits 700)) H.None 1010 armings 0 (to (4 ∷ 9 ∷ [])))
+    ∷ (None, with b Active (present uncharged) (present uncharged) H.None 1010 armings 0 (to (4 ∷ 9 ∷ [])))
+    ∷ (Some 1310, with b Analysing (present (waits 600)) (present (waits 700)) H.None 1010 armings 0 (record { nature = 3; count = 1; digits = pad places (6 ∷ []) }))
+    ∷ (Some 1310, with b Analysing (present (runs 600 900)) (present uncharged) H.None 1010 armings 0 (record { nature = 3; count = 1; digits = pad places (6 ∷ []) }))
+    ∷ (None, blank)
+    ∷ (None, blank)
+    ∷ (None, with b Analysing (present (waits 600)) (present (waits 700)) H.Trigger 1010 armings 30 (to (4 ∷ 9 ∷ [])))
+    ∷ (Some 2210, with b Analysing (present uncharged) (present uncharged) H.None 1010 nothing 0 (to (4 ∷ 9 ∷ [])))
+    ∷ (None, with b Active (present uncharged) (present uncharged) H.None 1010 nothing 0 (to (4 ∷ 9 ∷ [])))
+    ∷ (None, with b Alerting (present (waits 600)) (present uncharged) (H.At P.Seized) 1010 armings 0 (to (4 ∷ 9 ∷ [])))
+    ∷ (None, with b Active (present uncharged) (present (runs 700 1010)) (H.At P.Answer) 1010 armings 0 (to (4 ∷ 9 ∷ [])))
+    ∷ (None, with b Active (present uncharged) gone (H.At P.Disconnect2) 1500 armings 30 (to (4 ∷ 9 ∷ [])))
     ∷ []
 
 pub operations_leave : operations Originating 5 6 10 ++ operations Terminating 13 14 18 ≡ leave Originating ++ leave Terminating
@@ -742,18 +732,18 @@ abbrev dialled : List (ℕ × List ℕ)
 dialled = (4, 4 ∷ 9 ∷ []) ∷ (4, 4 ∷ 9 ∷ 5 ∷ []) ∷ (4, 1 ∷ 2 ∷ []) ∷ (3, 4 ∷ 9 ∷ []) ∷ (3, 4 ∷ 9 ∷ 5 ∷ []) ∷ []
 
 abbrev senses : Bcsm → Criterion → List Bool
-senses b sense = map (λ (d : ℕ × List ℕ). triggers b (profile sense [] A.Absent) d.0 8 false (length d.1) d.1) dialled
+senses b sense = map (λ (d : ℕ × List ℕ). triggers (profile sense [] A.Absent) (setup_of b d.0 8 false (length d.1)) d.1) dialled
 
 abbrev served : Bcsm → List ℕ → List Bool
-served b services = map (λ (n : ℕ). triggers b (profile A.Absent services A.Absent) 4 n false 1 (4 ∷ [])) (8 ∷ 9 ∷ 7 ∷ [])
+served b services = map (λ (n : ℕ). triggers (profile A.Absent services A.Absent) (setup_of b 4 n false 1) (4 ∷ [])) (8 ∷ 9 ∷ 7 ∷ [])
 
 abbrev forwards : Bcsm → Criterion → List Bool
-forwards b c = map (λ (f : Bool). triggers b (profile A.Absent [] c) 4 8 f 1 (4 ∷ [])) (true ∷ false ∷ [])
+forwards b c = map (λ (f : Bool). triggers (profile A.Absent [] c) (setup_of b 4 8 f 1) (4 ∷ [])) (true ∷ false ∷ [])
 
 abbrev triggered : Bcsm → List (List Bool)
 triggered b =
     senses b A.Absent ∷ senses b A.Enabling ∷ senses b A.Inhibiting ∷ served b [] ∷ served b (8 ∷ 9 ∷ []) ∷ forwards b A.Absent ∷ forwards b A.Enabling ∷ forwards b A.Inhibiting
-    ∷ map (λ (x : Criterion × ℕ × Bool). triggers b (profile x.0 (8 ∷ []) A.Enabling) 4 x.1 x.2 2 (4 ∷ 9 ∷ [])) ((A.Enabling, 8, true) ∷ (A.Inhibiting, 8, true) ∷ (A.Enabling, 7, true) ∷ (A.Enabling, 8, false) ∷ [])
+    ∷ map (λ (x : Criterion × ℕ × Bool). triggers (profile x.0 (8 ∷ []) A.Enabling) (setup_of b 4 x.1 x.2 2) (4 ∷ 9 ∷ [])) ((A.Enabling, 8, true) ∷ (A.Inhibiting, 8, true) ∷ (A.Enabling, 7, true) ∷ (A.Enabling, 8, false) ∷ [])
     ∷ []
 
 -- "Enabling: some number or some length matches. Inhibiting: no number and no length matches. Service: list empty, or the call's service is in it. Forwarding: enabling wants a forwarded call, inhibiting one that isn't."
@@ -788,12 +778,12 @@ begins b hold = by b 30 D.Release Analysing (present uncharged) (present uncharg
 -- "stage analysing, both legs, held as Triggering says, last time the item's, nothing armed, no charge, no kept timer, the profile's defaults, the Setup's number"; "the call is held at point 2 and an interrupting report for 2, leg 1, goes out"
 -- T-04: "hold and report are then at 12, leg 1"
 abbrev setup : Bcsm → List ℕ → Said × Option ℕ × Record
-setup b s = let q = opened (B.Setup b 4 0 false 2) (4 ∷ 9 ∷ []) s in (said q.answer, deadline_in q.answer, q.next)
+setup b s = let q = opened (B.Setup (setup_of b 4 0 false 2)) (4 ∷ 9 ∷ []) s in (said q.answer, deadline_in q.answer, q.next)
 
 pub setups :
     map (λ (b : Bcsm). map (setup b) (any ∷ only8 ∷ [])) kinds
-    ≡ ((interrupts (2 ╱ 1), none, begins Originating H.Trigger) ∷ (silent, some 1300, begins Originating H.None) ∷ [])
-    ∷ ((interrupts (12 ╱ 1), none, begins Terminating H.Trigger) ∷ (silent, some 1300, begins Terminating H.None) ∷ [])
+    ≡ ((interrupts (2 ╱ 1), None, begins Originating H.Trigger) ∷ (silent, Some 1300, begins Originating H.None) ∷ [])
+    ∷ ((interrupts (12 ╱ 1), None, begins Terminating H.Trigger) ∷ (silent, Some 1300, begins Terminating H.None) ∷ [])
     ∷ []
 unfolding all contains same item_in_range fields_of profile_bytes profile_in_range numbers_at numbers_end view_at profile_of is_profile some_matches triggers some_armed early_of set_up_of open_of
 setups = refl
@@ -802,7 +792,7 @@ setups = refl
 pub not_open_lem :
     map (λ (b : Body). refusal (opened b [] any).answer) (events ++ (B.PeriodOver One ∷ B.Continue ∷ B.Release ∷ B.ApplyCharging One (record { 0 = 600 }) ∷ B.ActivityTest ∷ B.Abort ∷ []))
     ++ (refusal (opened (B.RequestReport 1) (entry (9 ╱ 2) 1 0) any).answer ∷ refusal (opened (B.Connect 4 1) (4 ∷ []) any).answer ∷ [])
-    ++ flatten (map (λ (b : Bcsm). refusal (opened (B.Setup b 128 0 false 1) (4 ∷ []) []).answer ∷ refusal (opened (B.Setup b 4 0 false 1) (4 ∷ []) []).answer ∷ []) kinds)
+    ++ flatten (map (λ (b : Bcsm). refusal (opened (B.Setup (setup_of b 128 0 false 1)) (4 ∷ []) []).answer ∷ refusal (opened (B.Setup (setup_of b 4 0 false 1)) (4 ∷ []) []).answer ∷ []) kinds)
     ≡ replicate 17 4 ++ (1 ∷ 2 ∷ 1 ∷ 2 ∷ [])
 unfolding flatten all contains same item_in_range fields_of profile_bytes profile_in_range numbers_at numbers_end view_at profile_of is_profile early_of set_up_of open_of
 not_open_lem = refl

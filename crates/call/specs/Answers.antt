@@ -1,18 +1,13 @@
 -- An answer (document 01, A call by itself): "the refusal's number, or relationship, point of suspension or none, reports in their order, deadline or none, and whether the call is over". Beside it the record that remains.
-use Rattle.std.specs.Prelude.{ℕ, Bool, true, false, cond, List, [], ◌∷◌}
+use Rattle.std.specs.Prelude.{ℕ, Bool, true, false, cond, List, [], ◌∷◌, Option, Some, None, Ok, Err, option_map}
 use Prim.Native.String.{String}
-use Rattle.std.proofs.Math.Option.{Option, none, some}
 use Rattle.forms.specs.Fields.{leg_number}
-use Rattle.call.specs.Types.{Tenths, Point, PointSet, Hold, Record, Relationship, Suspension, Report, ChargeReport, Reports, Deadline, Outcome, Answer, Check, Stepped}
+use Rattle.forms.specs.Refusal.{number_of}
+use Rattle.call.specs.Types.{Tenths, Point, PointSet, Hold, Record, Refusal, Relationship, Report, Reports, Outcome, Answer, Check, Stepped}
 use Rattle.forms.specs.declared.item.Leg.TheVariants.{One, Two}
 use Rattle.call.specs.declared.record.Hold.TheVariants as hold
 use Rattle.call.specs.declared.relationship.Relationship.TheVariants as relationship
-use Rattle.call.specs.declared.charging.ChargeReport.TheVariants as due
-use Rattle.call.specs.declared.answers.Suspension.TheVariants as suspension
 use Rattle.call.specs.declared.answers.Report.TheVariants as report
-use Rattle.call.specs.declared.answers.Deadline.TheVariants as deadline
-use Rattle.call.specs.declared.answers.Answer.TheVariants.{Accepted, Refused}
-use Rattle.call.specs.declared.refusals.Check.TheVariants.{Pass, Fail}
 use Rattle.call.specs.Points.{point_in}
 use Rattle.call.specs.Charging.{report_of}
 use Rattle.call.specs.Relationship.{relationship_of}
@@ -33,28 +28,24 @@ pub record Pair : Type 0 where
 abbrev pub pair_of : Point → Pair
 pair_of q = record { point = q.number; leg = leg_number q.leg }
 
-abbrev pub suspended_at : Suspension → Option Pair
-suspended_at suspension.None = none
-suspended_at (suspension.At q) = some (pair_of q)
+abbrev pub suspended_at : Option Point → Option Pair
+suspended_at q = option_map pair_of q
 
 -- the report of an event: interrupting, or a notification, for a point
 pub record EventReport : Type 0 where
   pub interrupting : Bool
   pub met : Pair
 
-abbrev pub event_of : Report → Option EventReport
-event_of report.None = none
-event_of (report.Interrupting q) = some (record { interrupting = true; met = pair_of q })
-event_of (report.Notification q) = some (record { interrupting = false; met = pair_of q })
+abbrev pub reported_as : Report → EventReport
+reported_as (report.Interrupting q) = record { interrupting = true; met = pair_of q }
+reported_as (report.Notification q) = record { interrupting = false; met = pair_of q }
 
--- the figure of a charge's report, in tenths
-abbrev pub figure_of : ChargeReport → Option ℕ
-figure_of due.None = none
-figure_of (due.Elapsed t) = some t.0
+abbrev pub event_of : Option Report → Option EventReport
+event_of e = option_map reported_as e
 
-abbrev pub deadline_of : Deadline → Option ℕ
-deadline_of deadline.None = none
-deadline_of (deadline.At t) = some t.0
+-- the figure of a charge's report, and the deadline, in tenths
+abbrev pub tenths_in : Option Tenths → Option ℕ
+tenths_in t = option_map (λ u. u.0) t
 
 -- "relationship, point of suspension or none, reports in their order, deadline or none, and whether the call is over"; "Reports come in this order: event, charge of leg 1, charge of leg 2."
 pub record Told : Type 0 where
@@ -75,75 +66,75 @@ told_of o = record {
   relationship = relationship_word o.relationship;
   suspended = suspended_at o.suspension;
   event = event_of o.reports.event;
-  charge1 = figure_of o.reports.charge1;
-  charge2 = figure_of o.reports.charge2;
-  deadline = deadline_of o.deadline;
+  charge1 = tenths_in o.reports.charge1;
+  charge2 = tenths_in o.reports.charge2;
+  deadline = tenths_in o.deadline;
   over = o.over;
 }
 
 abbrev pub values_of : Answer → Values
-values_of (Refused n) = refusal n
-values_of (Accepted o) = accepted (told_of o)
+values_of (Err n) = refusal (number_of n)
+values_of (Ok o) = accepted (told_of o)
 
 -- ---- answers that go on, and the last one of a call
 
-abbrev pub reports : Report → ChargeReport → ChargeReport → Reports
+abbrev pub reports : Option Report → Option Tenths → Option Tenths → Reports
 reports event charge1 charge2 = record { event = event; charge1 = charge1; charge2 = charge2 }
 
 abbrev pub silent : Reports
-silent = reports report.None due.None due.None
+silent = reports None None None
 
 -- the point of suspension: the trigger's ("held at point 2"), or that of the role
-abbrev pub suspension_of : PointSet → Hold → Suspension
-suspension_of dp hold.None = suspension.None
-suspension_of dp hold.Trigger = suspension.At dp.trigger
-suspension_of dp (hold.At p) = suspension.At (point_in dp p)
+abbrev pub suspension_of : PointSet → Hold → Option Point
+suspension_of dp hold.None = None
+suspension_of dp hold.Trigger = Some dp.trigger
+suspension_of dp (hold.At p) = Some (point_in dp p)
 
 -- the call goes on with the record next
-abbrev pub goes_on : PointSet → Record → Reports → Deadline → Stepped
+abbrev pub goes_on : PointSet → Record → Reports → Option Tenths → Stepped
 goes_on dp next reports deadline = record {
-  answer = Accepted (record { relationship = relationship_of next; suspension = suspension_of dp next.hold; reports = reports; deadline = deadline; over = false });
+  answer = Ok (record { relationship = relationship_of next; suspension = suspension_of dp next.hold; reports = reports; deadline = deadline; over = false });
   next = next;
 }
 
 abbrev pub quietly : PointSet → Record → Stepped
-quietly dp next = goes_on dp next silent deadline.None
+quietly dp next = goes_on dp next silent None
 
 -- the call is over at t, with r the record before: "everything disarmed, slot freed", pending charges reported
-abbrev pub ended : Record → Report → Tenths → Stepped
+abbrev pub ended : Record → Option Report → Tenths → Stepped
 ended r event t = record {
-  answer = Accepted (record { relationship = relationship.None; suspension = suspension.None; reports = reports event (report_of t (leg_at One r).charge) (report_of t (leg_at Two r).charge); deadline = deadline.None; over = true });
+  answer = Ok (record { relationship = relationship.None; suspension = None; reports = reports event (report_of t (leg_at One r).charge) (report_of t (leg_at Two r).charge); deadline = None; over = true });
   next = blank;
 }
 
 -- a refusal is told from what is accepted
 abbrev pub is_accepted : Answer → Bool
-is_accepted (Accepted o) = true
-is_accepted (Refused n) = false
+is_accepted (Ok o) = true
+is_accepted (Err n) = false
 
 -- "or nothing when the call is over. A refusal leaves what is kept."
 abbrev pub remains : {A : Type 0} → Answer → A → A → A → A
-remains (Refused n) before over next = before
-remains (Accepted o) before over next = cond o.over over next
+remains (Err n) before over next = before
+remains (Ok o) before over next = cond o.over over next
 
 -- "Each returns its number alone and changes nothing."
-abbrev pub refused : Record → ℕ → Stepped
-refused r n = record { answer = Refused n; next = r }
+abbrev pub refused : Record → Refusal → Stepped
+refused r n = record { answer = Err n; next = r }
 
 abbrev pub guarded : Check → Record → Stepped → Stepped
-guarded Pass r s = s
-guarded (Fail n) r s = refused r n
+guarded (Ok _) r s = s
+guarded (Err n) r s = refused r n
 
 -- ---- refusals: "Checked in this order; the first that applies is given and none otherwise."
 
--- a row of the table: its number, and whether it applies
+-- a row of the table: what is told, by its number alone, and whether it applies
 pub record Row : Type 0 where
-  pub number : ℕ
+  pub refusal : Refusal
   pub applies : Bool
 
-abbrev pub row : ℕ → Bool → Row
-row number applies = record { number = number; applies = applies }
+abbrev pub row : Refusal → Bool → Row
+row n applies = record { refusal = n; applies = applies }
 
 abbrev pub first_of : List Row → Check
-first_of [] = Pass
-first_of (x ∷ xs) = cond x.applies (Fail x.number) (first_of xs)
+first_of [] = Ok tt
+first_of (x ∷ xs) = cond x.applies (Err x.refusal) (first_of xs)

@@ -1,8 +1,7 @@
 -- Document 01, Charging: a leg's pending charge (call period duration), its clock (Tcp) and its report (ApplyChargingReport). Both legs have the same rules.
-use Rattle.std.specs.Prelude.{◌+◌, ◌-◌, min, Bool, false, cond, ltb}
-use Rattle.call.specs.Types.{Tenths, Clock, Charge, Stage, ChargeReport}
+use Rattle.std.specs.Prelude.{◌+◌, ◌-◌, min, Bool, false, cond, ltb, Option, Some, None}
+use Rattle.call.specs.Types.{Tenths, Clock, Charge, Stage}
 use Rattle.call.specs.declared.record.Clock.TheVariants as clock
-use Rattle.call.specs.declared.charging.ChargeReport.TheVariants as due
 use Rattle.call.specs.Roles.{is_active}
 use Rattle.call.specs.Record.{no_time, waiting, running}
 
@@ -32,10 +31,10 @@ is_before_end c t = is_before_end_as c.clock c t
 
 -- ---- the report of a charge that is removed: "Elapsed = smaller of (time − start) and period, 0 if not started."
 
-abbrev pub report_as : Clock → Tenths → Charge → ChargeReport
-report_as clock.None t c = due.None
-report_as clock.Waiting t c = due.Elapsed no_time
-report_as clock.Running t c = due.Elapsed (record { 0 = min (t.0 - c.start.0) c.period.0 })
+abbrev pub report_as : Clock → Tenths → Charge → Option Tenths
+report_as clock.None t c = None
+report_as clock.Waiting t c = Some no_time
+report_as clock.Running t c = Some (record { 0 = min (t.0 - c.start.0) c.period.0 })
 
-abbrev pub report_of : Tenths → Charge → ChargeReport
+abbrev pub report_of : Tenths → Charge → Option Tenths
 report_of t c = report_as c.clock t c

@@ -1,6 +1,6 @@
 -- Document 01, One call: an event meets a role; what is reported, disarmed and held, and whether the call is over. T-05 (the called party hangs up while the call is held) is in `is_clear`, `hold_after` and `ends_call`.
-use Rattle.std.specs.Prelude.{Bool, true, false, not, cond, ◌&&◌}
-use Rattle.call.specs.Types.{Leg, Tenths, Stage, Role, PointSet, Event, Mode, Hold, LegState, Record, Report, ChargeReport, Stepped}
+use Rattle.std.specs.Prelude.{Bool, true, false, not, cond, ◌&&◌, Option, Some, None}
+use Rattle.call.specs.Types.{Leg, Tenths, Stage, Role, PointSet, Event, Mode, Hold, LegState, Record, Report, Stepped}
 use Rattle.forms.specs.declared.item.Leg.TheVariants.{One, Two}
 use Rattle.call.specs.declared.roles.Role.TheVariants.{MidCall, Disconnect1, Abandon, Moved, RouteFailure, Busy, NoAnswer, Answer, Disconnect2, Seized}
 use Rattle.call.specs.declared.events.Event.TheVariants as event
@@ -8,8 +8,6 @@ use Rattle.call.specs.declared.armings.Mode.TheVariants as mode
 use Rattle.call.specs.declared.record.Hold.TheVariants as hold
 use Rattle.call.specs.declared.record.Presence.TheVariants.{Absent}
 use Rattle.call.specs.declared.answers.Report.TheVariants as report
-use Rattle.call.specs.declared.charging.ChargeReport.TheVariants as due
-use Rattle.call.specs.declared.answers.Deadline.TheVariants as deadline
 use Rattle.call.specs.Roles.{is_role, is_active, met_in, loses_leg, stage_after}
 use Rattle.call.specs.Armings.{is_mode, mode_at, disarmed}
 use Rattle.call.specs.Points.{point_in, is_in, leaves, disarms}
@@ -63,10 +61,10 @@ module _ (dp : PointSet) where
   can_meet r p = met_in p r.stage && is_in dp p && is_present (leg_at (point_in dp p).leg r).presence
 
   -- "report by its mode if armed (interrupting or notification; none if unarmed)" (EventReportBCSM)
-  abbrev pub event_report : Role → Mode → Report
-  event_report p mode.None = report.None
-  event_report p mode.Interrupted = report.Interrupting (point_in dp p)
-  event_report p mode.Notify = report.Notification (point_in dp p)
+  abbrev pub event_report : Role → Mode → Option Report
+  event_report p mode.None = None
+  event_report p mode.Interrupted = Some (report.Interrupting (point_in dp p))
+  event_report p mode.Notify = Some (report.Notification (point_in dp p))
 
   -- a leg that becomes absent keeps no charge; Answer starts the clocks that wait
   abbrev pub leg_after : Role → Leg → Tenths → LegState → LegState
@@ -74,8 +72,8 @@ module _ (dp : PointSet) where
       cond (leaves dp p l) (leg Absent no_charge) (leg s.presence (cond (is_role p Answer) (answered t s.charge) s.charge))
 
   -- a charge "is reported and removed … when the leg becomes absent"
-  abbrev pub charge_after : Role → Leg → Tenths → LegState → ChargeReport
-  charge_after p l t s = cond (leaves dp p l) (report_of t s.charge) due.None
+  abbrev pub charge_after : Role → Leg → Tenths → LegState → Option Tenths
+  charge_after p l t s = cond (leaves dp p l) (report_of t s.charge) None
 
   -- "then disarm, whether or not it was armed"
   abbrev pub met_record : Record → Role → Mode → Tenths → Record
@@ -86,7 +84,7 @@ module _ (dp : PointSet) where
   abbrev pub meets_in : Record → Role → Mode → Tenths → Stepped
   meets_in r p m t =
       cond (ends_call p m r.hold) (ended r (event_report p m) t)
-      (goes_on dp (met_record r p m t) (reports (event_report p m) (charge_after p One t (leg_at One r)) (charge_after p Two t (leg_at Two r))) deadline.None)
+      (goes_on dp (met_record r p m t) (reports (event_report p m) (charge_after p One t (leg_at One r)) (charge_after p Two t (leg_at Two r))) None)
 
   unfoldable pub met : Record → Role → Tenths → Stepped
   met r p t = meets_in r p (mode_at p r.armings) t

@@ -1,12 +1,12 @@
 -- What an item asks of a call (document 01, Forms: "Kinds 2 to 9 are events, 20 to 26 operations, 1 and 10 neither").
-use Rattle.std.specs.Prelude.{ℕ, Bool, true, false}
+use Rattle.std.specs.Prelude.{Bool, true, false}
 use Rattle.forms.specs.declared.item.Body.TheVariants as body
-use Rattle.call.specs.Types.{Bcsm, Body, Item, Kind}
+use Rattle.call.specs.Types.{Body, Item, Setup, Kind}
 use Rattle.call.specs.declared.events.Event.TheVariants as event
 use Rattle.call.specs.declared.kind.Kind.TheVariants as kind
 
 abbrev pub kind_of : Body → Kind
-kind_of (body.Setup b nature service forwarded count) = kind.Setup b nature service forwarded count
+kind_of (body.Setup s) = kind.Setup s
 kind_of (body.RouteFailure cause) = kind.Event event.RouteFailure
 kind_of (body.Busy cause) = kind.Event event.Busy
 kind_of body.NoAnswer = kind.Event event.NoAnswer
@@ -24,9 +24,9 @@ kind_of (body.ApplyCharging l period) = kind.ApplyCharging l period
 kind_of body.ActivityTest = kind.ActivityTest
 kind_of body.Abort = kind.Abort
 
--- what f says of a Setup's kind of call, nature, service, forwarded flag and digit count; x of all else
-abbrev pub if_setup : {A : Type 0} → Kind → (Bcsm → ℕ → ℕ → Bool → ℕ → A) → A → A
-if_setup (kind.Setup b nature service forwarded count) f x = f b nature service forwarded count
+-- what f says of a Setup's fields; x of all else
+abbrev pub if_setup : {A : Type 0} → Kind → (Setup → A) → A → A
+if_setup (kind.Setup s) f x = f s
 if_setup (kind.Event e) f x = x
 if_setup (kind.PeriodOver l) f x = x
 if_setup (kind.RequestReport n) f x = x
@@ -38,4 +38,4 @@ if_setup kind.ActivityTest f x = x
 if_setup kind.Abort f x = x
 
 abbrev pub is_setup : Item → Bool
-is_setup i = if_setup (kind_of i.body) (λ b nature service forwarded count. true) false
+is_setup i = if_setup (kind_of i.body) (λ s. true) false

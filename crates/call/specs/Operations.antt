@@ -1,15 +1,12 @@
 -- Document 01, One call and Charging: what Period over and the operations do, Request report apart.
-use Rattle.std.specs.Prelude.{◌+◌, Bool, not, cond, ◌&&◌, ◌||◌, eqb}
+use Rattle.std.specs.Prelude.{◌+◌, Bool, not, cond, ◌&&◌, ◌||◌, eqb, Option, Some, None}
 use Rattle.forms.specs.Profile.{is_release}
 use Rattle.forms.specs.Units.{tenths_of}
-use Rattle.call.specs.Types.{Leg, Tenths, Seconds, PointSet, Charge, LegState, Number, Record, ChargeReport, Reports, Deadline, Stepped}
+use Rattle.call.specs.Types.{Leg, Tenths, Seconds, PointSet, Charge, LegState, Number, Record, Reports, Stepped}
 use Rattle.forms.specs.declared.item.Leg.TheVariants.{One, Two}
 use Rattle.call.specs.declared.record.Presence.TheVariants.{Present}
 use Rattle.call.specs.declared.stages.Stage.TheVariants.{Analysing}
 use Rattle.call.specs.declared.record.Hold.TheVariants as hold
-use Rattle.call.specs.declared.answers.Report.TheVariants as report
-use Rattle.call.specs.declared.charging.ChargeReport.TheVariants as due
-use Rattle.call.specs.declared.answers.Deadline.TheVariants as deadline
 use Rattle.call.specs.Armings.{no_armings}
 use Rattle.call.specs.Charging.{granted, report_of}
 use Rattle.call.specs.Record.{leg, no_charge, is_present, is_held, is_trigger, no_timer, timed, staged, with_legs, leg_at, with_leg, armed_as, numbered}
@@ -17,14 +14,14 @@ use Rattle.call.specs.Answers.{reports, silent, goes_on, quietly, ended}
 
 -- ---- routing: "deadline = time + kept timer × 10, used once (002), else the profile's default × 10" (TNRy)
 
-abbrev pub after : Tenths → Seconds → Deadline
-after t s = deadline.At (record { 0 = t.0 + (tenths_of s).0 })
+abbrev pub after : Tenths → Seconds → Tenths
+after t s = record { 0 = t.0 + (tenths_of s).0 }
 
 abbrev pub route_timer : Record → Seconds
 route_timer r = cond (eqb r.kept.0 0) r.timer r.kept
 
 abbrev pub routed : PointSet → Record → Tenths → Stepped
-routed dp r t = goes_on dp (armed_as r r.armings no_timer) silent (after t (route_timer r))
+routed dp r t = goes_on dp (armed_as r r.armings no_timer) silent (Some (after t (route_timer r)))
 
 -- ---- "Continue: over if a leg is absent, else resumes"; routing starts "at Continue (or Abort resuming) from a hold at 2"
 
@@ -35,7 +32,7 @@ unfoldable pub continued : PointSet → Record → Tenths → Stepped
 continued dp r t =
     cond (is_present r.leg1 && is_present r.leg2)
     (cond (is_trigger r.hold) (routed dp (resumed r t) t) (quietly dp (resumed r t)))
-    (ended r report.None t)
+    (ended r None t)
 
 -- ---- "Connect: … leg 2 is present again, stage analysing, number replaced, the hold ends"
 
@@ -56,7 +53,7 @@ dropped r = armed_as (with_legs r (uncharged (leg_at One r)) (uncharged (leg_at 
 
 unfoldable pub aborted : PointSet → Record → Tenths → Stepped
 aborted dp r t =
-    cond (is_release r.handling) (ended (dropped r) report.None t)
+    cond (is_release r.handling) (ended (dropped r) None t)
     (cond (is_held r.hold) (continued dp (dropped r) t) (quietly dp (timed (dropped r) t)))
 
 -- ---- charging
@@ -65,13 +62,13 @@ aborted dp r t =
 abbrev pub charged : Record → Leg → Charge → Tenths → Record
 charged r l c t = with_leg l (timed r t) (leg (leg_at l r).presence c)
 
-abbrev pub report_on : Leg → ChargeReport → Reports
-report_on One c = reports report.None c due.None
-report_on Two c = reports report.None due.None c
+abbrev pub report_on : Leg → Option Tenths → Reports
+report_on One c = reports None c None
+report_on Two c = reports None None c
 
 -- "reported and removed when Period over is accepted"
 abbrev pub period_over : PointSet → Record → Leg → Tenths → Stepped
-period_over dp r l t = goes_on dp (charged r l no_charge t) (report_on l (report_of t (leg_at l r).charge)) deadline.None
+period_over dp r l t = goes_on dp (charged r l no_charge t) (report_on l (report_of t (leg_at l r).charge)) None
 
 abbrev pub charge_applied : PointSet → Record → Leg → Tenths → Tenths → Stepped
 charge_applied dp r l period t = quietly dp (charged r l (granted r.stage period t) t)

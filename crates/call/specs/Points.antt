@@ -1,12 +1,11 @@
 -- Document 01, One call, and T-04 (document 02): the point set of a call, which of its roles are armable and by which pair of leg and detection point, and the rules that go by it.
 -- The rules take any point set; `is_point_set` says what makes a description a good one, and the laws hold of each that passes (proofs/PointLaws.antt). `set_of` has the two: document 01's, and T-04's.
-use Rattle.std.specs.Prelude.{ℕ, List, [], ◌∷◌, map, Bool, not, cond, ◌&&◌, ◌||◌, eqb, ltb, get_or}
+use Rattle.std.specs.Prelude.{ℕ, List, [], ◌∷◌, map, Bool, not, cond, ◌&&◌, ◌||◌, eqb, ltb, get_or, Option, Some, None}
 use Rattle.forms.specs.Fields.{leg_number}
-use Rattle.call.specs.Types.{Bcsm, Leg, Role, Point, RolePoints, PointSet, Named}
+use Rattle.call.specs.Types.{Bcsm, Leg, Role, Point, RolePoints, PointSet}
 use Rattle.forms.specs.declared.item.Bcsm.TheVariants.{Originating, Terminating}
 use Rattle.forms.specs.declared.item.Leg.TheVariants.{One, Two}
 use Rattle.call.specs.declared.roles.Role.TheVariants.{MidCall, Disconnect1, Abandon, Moved, RouteFailure, Busy, NoAnswer, Answer, Disconnect2, Seized}
-use Rattle.call.specs.declared.points.Named.TheVariants.{Unknown, Known}
 use Rattle.call.specs.Roles.{loses_leg, roles, place_of, is_role, every}
 
 -- ---- points
@@ -54,9 +53,9 @@ abbrev pub is_leg : Leg → Leg → Bool
 is_leg k l = eqb (leg_number k) (leg_number l)
 
 -- the first role of the list that passes the test
-abbrev pub first_role : (Role → Bool) → List Role → Named
-first_role f [] = Unknown
-first_role f (p ∷ ps) = cond (f p) (Known p) (first_role f ps)
+abbrev pub first_role : (Role → Bool) → List Role → Option Role
+first_role f [] = None
+first_role f (p ∷ ps) = cond (f p) (Some p) (first_role f ps)
 
 -- the roles of the list that pass the test
 abbrev pub picked : (Role → Bool) → List Role → List Role
@@ -73,7 +72,7 @@ module _ (dp : PointSet) where
   is_in p = is_point (point_in p)
 
   -- the role that has the numbers of a leg and a point, if there is one
-  abbrev pub role_in : ℕ → ℕ → Named
+  abbrev pub role_in : ℕ → ℕ → Option Role
   role_in leg number = first_role (λ p. is_pair (point_in p) leg number) roles
 
   abbrev pub is_on_leg : Role → Leg → Bool

@@ -1,10 +1,9 @@
 -- Document 01, Request report (RequestReportBCSMEvent): "all entries or none; each overwrites its point".
-use Rattle.std.specs.Prelude.{ℕ, zero, suc, Bool, true, false, not, cond, ◌&&◌, ◌||◌, List, [], ◌∷◌, leb, eqb, get_or, set, drop, replicate}
+use Rattle.std.specs.Prelude.{ℕ, zero, suc, Bool, true, false, not, cond, ◌&&◌, ◌||◌, List, [], ◌∷◌, leb, eqb, get_or, set, drop, replicate, Option, Some, None}
 use Rattle.forms.specs.Item.{entry_of}
 use Rattle.forms.specs.Units.{is_timer}
-use Rattle.call.specs.Types.{Entry, Seconds, Tenths, Role, PointSet, Named, Arming, Record, Stepped}
+use Rattle.call.specs.Types.{Entry, Seconds, Tenths, Role, PointSet, Record, Stepped}
 use Rattle.call.specs.declared.roles.Role.TheVariants.{Moved, NoAnswer}
-use Rattle.call.specs.declared.points.Named.TheVariants.{Unknown, Known}
 use Rattle.call.specs.Roles.{place_of, is_role, occurs_from}
 use Rattle.call.specs.Armings.{mode_of}
 use Rattle.call.specs.Points.{role_in}
@@ -17,7 +16,7 @@ entries_of zero t = []
 entries_of (suc n) t = entry_of t ∷ entries_of n (drop 5 t)
 
 -- the role that the entry names in the point set
-abbrev pub named : PointSet → Entry → Named
+abbrev pub named : PointSet → Entry → Option Role
 named dp e = role_in dp e.leg e.point
 
 -- ---- 11: "entry with unknown leg and point, bad mode or timer, or a pair named twice"
@@ -31,13 +30,13 @@ abbrev pub is_timer_for : Role → ℕ → Seconds → Bool
 is_timer_for p m t = is_timer t && (eqb t.0 0 || (is_role p NoAnswer && leb m 1))
 
 -- `seen` says of each role whether an entry before has named it
-abbrev pub is_good : Named → List Bool → Entry → Bool
-is_good Unknown seen e = false
-is_good (Known p) seen e = is_mode_for p e.mode && is_timer_for p e.mode e.timer && not (get_or seen (place_of p) false)
+abbrev pub is_good : Option Role → List Bool → Entry → Bool
+is_good None seen e = false
+is_good (Some p) seen e = is_mode_for p e.mode && is_timer_for p e.mode e.timer && not (get_or seen (place_of p) false)
 
-abbrev pub seen_after : Named → List Bool → List Bool
-seen_after Unknown seen = seen
-seen_after (Known p) seen = set seen (place_of p) true
+abbrev pub seen_after : Option Role → List Bool → List Bool
+seen_after None seen = seen
+seen_after (Some p) seen = set seen (place_of p) true
 
 unfoldable pub are_good : PointSet → List Bool → List Entry → Bool
 are_good dp seen [] = true
@@ -52,9 +51,9 @@ none_seen = replicate 10 false
 abbrev pub can_occur : Record → Role → Bool
 can_occur r p = is_present r.leg1 && (not (is_present r.leg2) || occurs_from p r.stage)
 
-abbrev pub is_possible : Record → Named → ℕ → Bool
-is_possible r Unknown m = true
-is_possible r (Known p) m = not (leb m 1) || can_occur r p
+abbrev pub is_possible : Record → Option Role → ℕ → Bool
+is_possible r None m = true
+is_possible r (Some p) m = not (leb m 1) || can_occur r p
 
 unfoldable pub are_possible : PointSet → Record → List Entry → Bool
 are_possible dp r [] = true
@@ -67,9 +66,9 @@ abbrev pub kept_after : Seconds → Seconds → Seconds
 kept_after timer kept = cond (eqb timer.0 0) kept timer
 
 -- "each overwrites its point"
-abbrev pub armed_by : Record → Named → Entry → Record
-armed_by r Unknown e = r
-armed_by r (Known p) e = armed_as r (set r.armings (place_of p) (record { mode = mode_of e.mode })) (kept_after e.timer r.kept)
+abbrev pub armed_by : Record → Option Role → Entry → Record
+armed_by r None e = r
+armed_by r (Some p) e = armed_as r (set r.armings (place_of p) (record { mode = mode_of e.mode })) (kept_after e.timer r.kept)
 
 unfoldable pub armed_with : PointSet → Record → List Entry → Record
 armed_with dp r [] = r
@@ -77,19 +76,3 @@ armed_with dp r (e ∷ es) = armed_with dp (armed_by r (named dp e) e) es
 
 abbrev pub request_report : PointSet → Record → ℕ → List ℕ → Tenths → Stepped
 request_report dp r n entries t = quietly dp (armed_with dp (timed r t) (entries_of n entries))
-
--- ---- only for the code's shape: an entry in a loop that stores in place
-
--- the place of the role that is named; 0 if none is
-abbrev pub place_named : Named → ℕ
-place_named Unknown = 0
-place_named (Known p) = place_of p
-
--- what an entry leaves at its place, and as the kept timer; what was there if no role is named
-abbrev pub arming_after : Named → ℕ → Arming → Arming
-arming_after Unknown m old = old
-arming_after (Known p) m old = record { mode = mode_of m }
-
-abbrev pub kept_for : Named → Seconds → Seconds → Seconds
-kept_for Unknown timer kept = kept
-kept_for (Known p) timer kept = kept_after timer kept

@@ -1,7 +1,7 @@
 -- Document 01, One call: an item's answer and the next record, for a call that is open.
-use Rattle.std.specs.Prelude.{ℕ, List, [], ◌∷◌}
+use Rattle.std.specs.Prelude.{ℕ, List, [], ◌∷◌, None}
 use Rattle.call.specs.Types.{Item, Tenths, PointSet, Record, Stepped, Kind}
-use Rattle.call.specs.declared.answers.Report.TheVariants as report
+use Rattle.forms.specs.declared.refusal.Refusal.TheVariants.{CallOpen}
 use Rattle.call.specs.declared.kind.Kind.TheVariants as kind
 use Rattle.call.specs.Points.{set_of}
 use Rattle.call.specs.Record.{number_of, timed}
@@ -15,13 +15,13 @@ use Rattle.call.specs.Refusals.{row1, row1_time, row3, rows_of}
 -- ---- an accepted item's answer and next record; its digits or entries stand in `rest`. (A Setup is not accepted: row 5.)
 
 abbrev pub served : PointSet → Record → Kind → Tenths → List ℕ → Stepped
-served dp r (kind.Setup b nature service forwarded count) t rest = refused r 5
+served dp r (kind.Setup s) t rest = refused r CallOpen
 served dp r (kind.Event e) t rest = met dp r (role_of e r.stage) t
 served dp r (kind.PeriodOver l) t rest = period_over dp r l t
 served dp r (kind.RequestReport n) t rest = request_report dp r n rest t
 served dp r kind.Continue t rest = continued dp r t
 served dp r (kind.Connect nature count) t rest = routed dp (connected r (number_of nature count rest) t) t
-served dp r kind.Release t rest = ended r report.None t
+served dp r kind.Release t rest = ended r None t
 served dp r (kind.ApplyCharging l period) t rest = charge_applied dp r l period t
 served dp r kind.ActivityTest t rest = quietly dp (timed r t)
 served dp r kind.Abort t rest = aborted dp r t

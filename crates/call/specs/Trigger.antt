@@ -2,7 +2,7 @@
 use Rattle.std.specs.Prelude.{ℕ, Bool, true, not, ◌&&◌, ◌||◌, List, eqb, length}
 use Rattle.forms.specs.Bytes.{contains}
 use Rattle.forms.specs.Profile.{Profile, some_matches}
-use Rattle.call.specs.Types.{Bcsm, Criterion}
+use Rattle.call.specs.Types.{Bcsm, Setup, Criterion}
 use Rattle.forms.specs.declared.item.Bcsm.TheVariants.{Originating, Terminating}
 use Rattle.forms.specs.declared.profile.Criterion.TheVariants.{Absent, Enabling, Inhibiting}
 
@@ -13,19 +13,21 @@ holds Enabling b = b
 holds Inhibiting b = not b
 
 -- "Enabling: some number or some length matches. Inhibiting: no number and no length matches." A length matches if it is the Setup's digit count
-abbrev pub number_holds : Profile → ℕ → ℕ → List ℕ → Bool
-number_holds p nature count dialled = holds p.sense (some_matches p.numbers nature dialled || contains count p.lengths)
+abbrev pub number_holds : Profile → Setup → List ℕ → Bool
+number_holds p s dialled = holds p.sense (some_matches p.numbers s.nature dialled || contains s.count p.lengths)
 
 -- "Service: list empty, or the call's service is in it."
 abbrev pub service_holds : List ℕ → ℕ → Bool
 service_holds services service = eqb (length services) 0 || contains service services
 
 -- "Forwarding: enabling wants a forwarded call, inhibiting one that isn't. All present criteria must hold."
-abbrev pub all_hold : Profile → ℕ → ℕ → Bool → ℕ → List ℕ → Bool
-all_hold p nature service forwarded count dialled =
-    number_holds p nature count dialled && service_holds p.services service && holds p.forwarding forwarded
+abbrev pub all_hold : Profile → Setup → List ℕ → Bool
+all_hold p s dialled = number_holds p s dialled && service_holds p.services s.service && holds p.forwarding s.forwarded
 
 -- T-04: a terminating Setup is "triggered by the service list alone"
-unfoldable pub triggers : Bcsm → Profile → ℕ → ℕ → Bool → ℕ → List ℕ → Bool
-triggers Originating p nature service forwarded count dialled = all_hold p nature service forwarded count dialled
-triggers Terminating p nature service forwarded count dialled = service_holds p.services service
+abbrev pub triggers_in : Bcsm → Profile → Setup → List ℕ → Bool
+triggers_in Originating p s dialled = all_hold p s dialled
+triggers_in Terminating p s dialled = service_holds p.services s.service
+
+unfoldable pub triggers : Profile → Setup → List ℕ → Bool
+triggers p s dialled = triggers_in s.bcsm p s dialled

@@ -1,29 +1,19 @@
 // A leg's pending charge, its clock and its report (document 01, Charging).
-ghost use Rattle.std.specs.Prelude.{◌≡◌, ◌+◌, ◌-◌, min, ltb};
-ghost use Rattle.call.specs.Charging.{answered, granted, report_of};
+ghost use Rattle.std.specs.Prelude.{◌≡◌};
+ghost use Rattle.call.specs.Charging.{answered, granted, is_before_end, report_of};
 
+use crate::record;
 use crate::record::*;
 use crate::stages::Stage;
-use crate::{record, stages};
 use forms::units::Tenths;
-
-// What is reported of a charge that is removed.
-#[derive(Clone, Copy)]
-pub enum ChargeReport {
-    None,
-    Elapsed(Tenths),
-}
 
 // An Answer starts a clock that waits.
 pub(crate) fn answer(t: Tenths, c: Charge) -> Charge
     ensures { result ≡ answered t c }
 {
-    let clock = c.clock;
-    let period = c.period;
-    match clock {
-        Clock::None => c,
-        Clock::Waiting => record::running(period, t),
-        Clock::Running => c,
+    match c.clock {
+        Clock::Waiting => record::running(c.period, t),
+        Clock::None | Clock::Running => c,
     }
 }
 
@@ -31,45 +21,30 @@ pub(crate) fn answer(t: Tenths, c: Charge) -> Charge
 pub(crate) fn grant(s: Stage, period: Tenths, t: Tenths) -> Charge
     ensures { result ≡ granted s period t }
 {
-    if stages::is_active(s) {
+    if s == Stage::Active {
         record::running(period, t)
     } else {
         record::waiting(period)
     }
 }
 
-// Before start + period. The sum is not taken: it need not fit.
-pub(crate) fn is_before(t: Tenths, start: Tenths, period: Tenths) -> bool
-    ensures { result ≡ ltb t.0 (start.0 + period.0) }
+// The clock runs, and t is before start + period. The sum is not taken: it need not fit.
+pub(crate) fn is_before_end(t: Tenths, c: Charge) -> bool
+    ensures { result ≡ is_before_end c t }
 {
-    if start.0 <= t.0 {
-        t.0 - start.0 < period.0
-    } else {
-        true
+    match c.clock {
+        Clock::None | Clock::Waiting => false,
+        Clock::Running => (t.0 < c.start.0) || (t.0 - c.start.0 < c.period.0),
     }
 }
 
-// The smaller of the time since the start and the period.
-fn elapsed(t: Tenths, start: Tenths, period: Tenths) -> Tenths
-    ensures { result ≡ record { 0 = min (t.0 - start.0) period.0 } }
-{
-    if t.0 <= start.0 {
-        return Tenths(0);
-    }
-    let d = t.0 - start.0;
-    if d <= period.0 { Tenths(d) } else { period }
-}
-
-// The report of a charge that is removed.
-pub(crate) fn report_of(t: Tenths, c: Charge) -> ChargeReport
+// The report of a charge that is removed, if one is pending: the smaller of the time since its start and its period.
+pub(crate) fn report_of(t: Tenths, c: Charge) -> Option<Tenths>
     ensures { result ≡ report_of t c }
 {
-    let clock = c.clock;
-    let period = c.period;
-    let start = c.start;
-    match clock {
-        Clock::None => ChargeReport::None,
-        Clock::Waiting => ChargeReport::Elapsed(Tenths(0)),
-        Clock::Running => ChargeReport::Elapsed(elapsed(t, start, period)),
+    match c.clock {
+        Clock::None => None,
+        Clock::Waiting => Some(Tenths(0)),
+        Clock::Running => Some(Tenths(t.0.saturating_sub(c.start.0).min(c.period.0))),
     }
 }

@@ -6,7 +6,6 @@ ghost use Rattle.call.specs.Events.{is_clear, clear_of, role_of, can_meet, event
 
 use crate::answers::*;
 use crate::armings::Mode;
-use crate::charging::ChargeReport;
 use crate::points::*;
 use crate::record::*;
 use crate::roles::Role;
@@ -31,16 +30,7 @@ pub(crate) enum Event {
 pub(crate) fn is_clear(e: Event) -> bool
     ensures { result ≡ is_clear e }
 {
-    match e {
-        Event::RouteFailure => false,
-        Event::Busy => false,
-        Event::NoAnswer => false,
-        Event::Seized => false,
-        Event::Answer => false,
-        Event::MidCall => false,
-        Event::Moved => false,
-        Event::Clear(_) => true,
-    }
+    matches!(e, Event::Clear(_))
 }
 
 // The role that a Clear meets.
@@ -49,7 +39,7 @@ fn clear_of(leg: Leg, s: Stage) -> Role
 {
     match leg {
         Leg::One => {
-            if stages::is_active(s) {
+            if s == Stage::Active {
                 Role::Disconnect1
             } else {
                 Role::Abandon
@@ -79,87 +69,77 @@ pub(crate) fn role_of(e: Event, s: Stage) -> Role
 pub(crate) fn can_meet(r: Record, p: Role) -> bool
     ensures { result ≡ can_meet (set_of r.bcsm) r p }
 {
-    let bcsm = r.bcsm;
-    let s = r.stage;
-    let part = roles::part_of(p);
-    let met = part.met;
-    let q = points::point_in(bcsm, p);
-    let leg = q.leg;
-    let l = record::leg_at(leg, r);
-    let presence = l.presence;
-    stages::is_within(met, s) & points::is_point(q) & record::is_present(presence)
+    let q = points::point_in(r.bcsm, p);
+    stages::is_within(roles::part_of(p).met, r.stage)
+        & points::is_point(q)
+        & record::leg_at(q.leg, r).presence.is_present()
 }
 
 // What becomes of a leg, and the report of its charge.
 #[derive(Clone, Copy)]
 struct LegAfter {
     state: LegState,
-    report: ChargeReport,
+    report: Option<Tenths>,
 }
 
 fn leg_after(r: Record, p: Role, leg: Leg, t: Tenths) -> LegAfter
     ensures { result ≡ record { state = leg_after (set_of r.bcsm) p leg t (leg_at leg r); report = charge_after (set_of r.bcsm) p leg t (leg_at leg r) } }
 {
-    let bcsm = r.bcsm;
     let l = record::leg_at(leg, r);
-    let presence = l.presence;
-    let c = l.charge;
-    if points::takes_leg(bcsm, p, leg) {
-        let none = record::no_charge();
+    if points::takes_leg(r.bcsm, p, leg) {
         return LegAfter {
             state: LegState {
                 presence: Presence::Absent,
-                charge: none,
+                charge: record::no_charge(),
             },
-            report: charging::report_of(t, c),
+            report: charging::report_of(t, l.charge),
         };
     }
-    if roles::is_role(p, Role::Answer) {
+    if p == Role::Answer {
         return LegAfter {
             state: LegState {
-                presence,
-                charge: charging::answer(t, c),
+                charge: charging::answer(t, l.charge),
+                ..l
             },
-            report: ChargeReport::None,
+            report: None,
         };
     }
     LegAfter {
         state: l,
-        report: ChargeReport::None,
+        report: None,
     }
 }
 
-// What a met role does by its mode and the earlier hold: the report, the hold, and whether the call is over.
-#[derive(Clone, Copy)]
-struct ByMode {
-    event: Report,
-    hold: Hold,
-    over: bool,
-}
-
-fn by_mode(bcsm: Bcsm, p: Role, m: Mode, earlier: Hold) -> ByMode
-    ensures { result ≡ record { event = event_report (set_of bcsm) p m; hold = hold_after p m earlier; over = ends_call p m earlier } }
+// The report of a met role, by its mode.
+fn event_report(bcsm: Bcsm, p: Role, m: Mode) -> Option<Report>
+    ensures { result ≡ event_report (set_of bcsm) p m }
 {
-    let part = roles::part_of(p);
     let q = points::point_in(bcsm, p);
-    let over = part.leaves & !(roles::is_role(p, Role::Disconnect2) & record::is_held(earlier));
     match m {
-        Mode::None => ByMode {
-            event: Report::None,
-            hold: earlier,
-            over,
-        },
-        Mode::Interrupted => ByMode {
-            event: Report::Interrupting(q),
-            hold: Hold::At(p),
-            over: false,
-        },
-        Mode::Notify => ByMode {
-            event: Report::Notification(q),
-            hold: earlier,
-            over,
-        },
+        Mode::None => None,
+        Mode::Interrupted => Some(Report::Interrupting(q)),
+        Mode::Notify => Some(Report::Notification(q)),
     }
+}
+
+// The hold, where the call goes on.
+fn hold_after(p: Role, m: Mode, earlier: Hold) -> Hold
+    ensures { result ≡ hold_after p m earlier }
+{
+    if m == Mode::Interrupted {
+        Hold::At(p)
+    } else {
+        earlier
+    }
+}
+
+// The call is over: the leg leaves, in another mode than interrupted. A held call goes on where leg 2 leaves by a Disconnect (T-05).
+fn ends_call(p: Role, m: Mode, earlier: Hold) -> bool
+    ensures { result ≡ ends_call p m earlier }
+{
+    (m != Mode::Interrupted)
+        & roles::part_of(p).leaves
+        & !((p == Role::Disconnect2) & earlier.is_held())
 }
 
 // The role is met at t, its leg and stage allowing it.
@@ -167,32 +147,23 @@ fn by_mode(bcsm: Bcsm, p: Role, m: Mode, earlier: Hold) -> ByMode
 pub(crate) fn meet(r: Record, p: Role, t: Tenths) -> Stepped
     ensures { result ≡ met (set_of r.bcsm) r p t }
 {
-    let bcsm = r.bcsm;
-    let stage = r.stage;
-    let a = r.armings;
-    let kept = r.kept;
-    let number = r.number;
-    let earlier = r.hold;
-    let m = armings::mode_at(p, a);
-    let by = by_mode(bcsm, p, m, earlier);
-    let event = by.event;
-    if by.over {
+    let m = armings::mode_at(p, r.armings);
+    let event = event_report(r.bcsm, p, m);
+    if ends_call(p, m, r.hold) {
         return answers::end(r, event, t);
     }
-    let hold = by.hold;
     let one = leg_after(r, p, Leg::One, t);
     let two = leg_after(r, p, Leg::Two, t);
-    let leg1 = one.state;
-    let leg2 = two.state;
-    let charge1 = one.report;
-    let charge2 = two.report;
-    let armings = points::disarm(bcsm, p, a);
-    let after = roles::stage_after(p, stage);
-    let next = record::made(r, after, leg1, leg2, hold, t, armings, kept, number);
+    let armings = points::disarm(r.bcsm, p, r.armings);
+    let stage = roles::stage_after(p, r.stage);
+    let hold = hold_after(p, m, r.hold);
+    let next = record::made(
+        r, stage, one.state, two.state, hold, t, armings, r.kept, r.number,
+    );
     let reports = Reports {
         event,
-        charge1,
-        charge2,
+        charge1: one.report,
+        charge2: two.report,
     };
-    answers::go_on(next, reports, Deadline::None)
+    answers::go_on(next, reports, None)
 }

@@ -8,8 +8,7 @@ use forms::units::Tenths;
 
 #[derive(Clone, Copy)]
 pub(crate) enum Kind {
-    // Kind of call, nature, service, forwarded, digit count.
-    Setup(Bcsm, u8, u8, bool, u8),
+    Setup(Setup),
     Event(Event),
     PeriodOver(Leg),
     // Count of entries.
@@ -24,28 +23,28 @@ pub(crate) enum Kind {
     Abort,
 }
 
-pub(crate) fn kind_of(body: Body) -> Kind
-    ensures { result ≡ kind_of body }
-{
-    match body {
-        Body::Setup(bcsm, nature, service, forwarded, count) => Kind::Setup(
-            bcsm, nature, service, forwarded, count,
-        ),
-        Body::RouteFailure(_) => Kind::Event(Event::RouteFailure),
-        Body::Busy(_) => Kind::Event(Event::Busy),
-        Body::NoAnswer => Kind::Event(Event::NoAnswer),
-        Body::Seized => Kind::Event(Event::Seized),
-        Body::Answer => Kind::Event(Event::Answer),
-        Body::MidCall(_) => Kind::Event(Event::MidCall),
-        Body::Moved => Kind::Event(Event::Moved),
-        Body::Clear(leg, _) => Kind::Event(Event::Clear(leg)),
-        Body::PeriodOver(leg) => Kind::PeriodOver(leg),
-        Body::RequestReport(count) => Kind::RequestReport(count),
-        Body::Continue => Kind::Continue,
-        Body::Connect(nature, count) => Kind::Connect(nature, count),
-        Body::Release => Kind::Release,
-        Body::ApplyCharging(leg, period) => Kind::ApplyCharging(leg, period),
-        Body::ActivityTest => Kind::ActivityTest,
-        Body::Abort => Kind::Abort,
+impl From<Body> for Kind {
+    ghost from_gives = { λ body kind. kind ≡ kind_of body };
+
+    fn from(body: Body) -> Kind {
+        match body {
+            Body::Setup(s) => Kind::Setup(s),
+            Body::RouteFailure(_) => Kind::Event(Event::RouteFailure),
+            Body::Busy(_) => Kind::Event(Event::Busy),
+            Body::NoAnswer => Kind::Event(Event::NoAnswer),
+            Body::Seized => Kind::Event(Event::Seized),
+            Body::Answer => Kind::Event(Event::Answer),
+            Body::MidCall(_) => Kind::Event(Event::MidCall),
+            Body::Moved => Kind::Event(Event::Moved),
+            Body::Clear(leg, _) => Kind::Event(Event::Clear(leg)),
+            Body::PeriodOver(leg) => Kind::PeriodOver(leg),
+            Body::RequestReport(count) => Kind::RequestReport(count),
+            Body::Continue => Kind::Continue,
+            Body::Connect(nature, count) => Kind::Connect(nature, count),
+            Body::Release => Kind::Release,
+            Body::ApplyCharging(leg, period) => Kind::ApplyCharging(leg, period),
+            Body::ActivityTest => Kind::ActivityTest,
+            Body::Abort => Kind::Abort,
+        }
     }
 }

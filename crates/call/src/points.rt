@@ -4,13 +4,12 @@ ghost use Rattle.call.specs.Armings.{unarmed, disarmed};
 ghost use Rattle.call.specs.Points.{at, each, points_of, set_of, is_point, is_pair, is_leg, point_in, is_in, role_in, leaves, on_leg, disarms};
 
 use crate::armings::*;
-use crate::roles::Role;
+use crate::roles::{ROLES, Role};
 use crate::{armings, roles};
-use forms::item;
 use forms::item::*;
 
-// A detection point: its leg, and its number, which is not 0.
-#[derive(Clone, Copy)]
+// A detection point: its leg, and its number, which is not 0. (No Option of a point where a role has none: Route failure in a terminating call alone, which has the number 0, so that all rows are of one type and no test of a point is a case more.)
+#[derive(Clone, Copy, PartialEq, Eq)]
 pub struct Point {
     pub leg: Leg,
     pub number: u8,
@@ -21,13 +20,6 @@ pub struct Point {
 pub(crate) struct RolePoints {
     pub originating: Point,
     pub terminating: Point,
-}
-
-// The role that two numbers name.
-#[derive(Clone, Copy)]
-pub(crate) enum Named {
-    Unknown,
-    Known(Role),
 }
 
 fn at(leg: Leg, number: u8) -> Point
@@ -76,11 +68,9 @@ pub fn point_in(bcsm: Bcsm, p: Role) -> Point
     ensures { result ≡ point_in (set_of bcsm) p }
 {
     let points = points_of(p);
-    let originating = points.originating;
-    let terminating = points.terminating;
     match bcsm {
-        Bcsm::Originating => originating,
-        Bcsm::Terminating => terminating,
+        Bcsm::Originating => points.originating,
+        Bcsm::Terminating => points.terminating,
     }
 }
 
@@ -99,45 +89,33 @@ pub(crate) fn is_in(bcsm: Bcsm, p: Role) -> bool
 fn is_pair(q: Point, leg: u8, number: u8) -> bool
     ensures { result ≡ is_pair q leg number }
 {
-    let own = q.leg;
-    is_point(q) & ((leg == item::leg_number(own)) & (number == q.number))
+    is_point(q) & ((leg == q.leg.number()) & (number == q.number))
 }
 
-// The role that has the numbers of a leg and a point.
+// The role that has the numbers of a leg and a point, if there is one.
 #[tactic(auto, using(crate::proofs::PointLaws::first_here, crate::proofs::PointLaws::first_after, crate::proofs::PointLaws::first_none))]
-pub(crate) fn role_in(bcsm: Bcsm, leg: u8, number: u8) -> Named
+pub(crate) fn role_in(bcsm: Bcsm, leg: u8, number: u8) -> Option<Role>
     ensures { result ≡ role_in (set_of bcsm) leg number }
 {
-    let mut i: usize = 0;
-    while i < 10 {
-        let p = roles::role_at(i);
+    for p in ROLES {
         if is_pair(point_in(bcsm, p), leg, number) {
-            return Named::Known(p);
+            return Some(p);
         }
-        i += 1;
     }
-    Named::Unknown
+    None
 }
 
 fn is_on_leg(q: Point, leg: Leg) -> bool
     ensures { result ≡ (is_point q && is_leg q.leg leg) }
 {
-    let own = q.leg;
-    is_point(q) & (item::leg_number(own) == item::leg_number(leg))
+    is_point(q) & (q.leg == leg)
 }
 
 // The leg becomes absent when the role is met.
 pub(crate) fn takes_leg(bcsm: Bcsm, p: Role, leg: Leg) -> bool
     ensures { result ≡ leaves (set_of bcsm) p leg }
 {
-    let part = roles::part_of(p);
-    part.leaves & is_on_leg(point_in(bcsm, p), leg)
-}
-
-fn unarmed_if(off: bool, x: Arming) -> Arming
-    ensures { result ≡ cond off unarmed x }
-{
-    if off { Arming { mode: Mode::None } } else { x }
+    roles::part_of(p).leaves & is_on_leg(point_in(bcsm, p), leg)
 }
 
 // The points of a leg are disarmed.
@@ -146,30 +124,23 @@ fn without_leg(bcsm: Bcsm, leg: Leg, a: [Arming; 10]) -> [Arming; 10]
     ensures { result ≡ disarmed (on_leg (set_of bcsm) leg) a }
 {
     let mut b = a;
-    let mut i: usize = 0;
-    while i < 10 {
-        let q = point_in(bcsm, roles::role_at(i));
-        let x = b[i];
-        b[i] = unarmed_if(is_on_leg(q, leg), x);
-        i += 1;
+    for p in ROLES {
+        if is_on_leg(point_in(bcsm, p), leg) {
+            b[roles::place_of(p)] = UNARMED;
+        }
     }
     b
 }
 
-// Answer's row, whatever the kind of call: Route failure, Busy, No answer, Answer, Abandon and Seized.
-fn without_answered(bcsm: Bcsm, a: [Arming; 10]) -> [Arming; 10]
-    ensures { result ≡ disarmed (disarms (set_of bcsm) Role.Answer) a }
-{
-    let u = Arming { mode: Mode::None };
-    let mut b = a;
-    b[4] = u;
-    b[5] = u;
-    b[6] = u;
-    b[7] = u;
-    b[2] = u;
-    b[9] = u;
-    b
-}
+// Answer's row, whatever the kind of call.
+const ANSWERED: [Role; 6] = [
+    Role::RouteFailure,
+    Role::Busy,
+    Role::NoAnswer,
+    Role::Answer,
+    Role::Abandon,
+    Role::Seized,
+];
 
 // The armings that are left when a role is met.
 pub(crate) fn disarm(bcsm: Bcsm, p: Role, a: [Arming; 10]) -> [Arming; 10]
@@ -180,10 +151,10 @@ pub(crate) fn disarm(bcsm: Bcsm, p: Role, a: [Arming; 10]) -> [Arming; 10]
         Role::Busy => without_leg(bcsm, Leg::Two, a),
         Role::NoAnswer => without_leg(bcsm, Leg::Two, a),
         Role::Disconnect2 => without_leg(bcsm, Leg::Two, a),
-        Role::Answer => without_answered(bcsm, a),
-        Role::MidCall => armings::without(Role::MidCall, a),
-        Role::Seized => armings::without(Role::Seized, a),
-        Role::Moved => armings::without(Role::Moved, a),
+        Role::Answer => armings::without(&ANSWERED, a),
+        Role::MidCall => armings::without(&[Role::MidCall], a),
+        Role::Seized => armings::without(&[Role::Seized], a),
+        Role::Moved => armings::without(&[Role::Moved], a),
         Role::Abandon => without_leg(bcsm, Leg::One, a),
         Role::Disconnect1 => without_leg(bcsm, Leg::One, a),
     }

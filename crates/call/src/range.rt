@@ -9,21 +9,20 @@ ghost use Rattle.call.specs.Range.{charge_in_range, hold_in_range, armings_in_ra
 use crate::armings::*;
 use crate::record::*;
 use crate::roles::Role;
-use crate::{armings, points, record, roles, stages};
+use crate::stages::Stage;
+use crate::{armings, points, record};
+use forms::fields;
 use forms::item::*;
+use forms::profile::Handling;
 use forms::units::*;
-use forms::{fields, profile};
 
 fn charge_in_range(c: Charge, last: Tenths) -> bool
     ensures { result ≡ charge_in_range c last }
 {
-    let clock = c.clock;
-    let period = c.period;
-    let start = c.start;
-    match clock {
-        Clock::None => (period.0 == 0) & (start.0 == 0),
-        Clock::Waiting => period.is_period() & (start.0 == 0),
-        Clock::Running => period.is_period() & (start.0 <= last.0),
+    match c.clock {
+        Clock::None => (c.period.0 == 0) & (c.start.0 == 0),
+        Clock::Waiting => c.period.is_period() & (c.start.0 == 0),
+        Clock::Running => c.period.is_period() & (c.start.0 <= last.0),
     }
 }
 
@@ -31,29 +30,29 @@ fn charge_in_range(c: Charge, last: Tenths) -> bool
 fn is_held_at_none(bcsm: Bcsm, h: Hold) -> bool
     ensures { result ≡ (not (is_in (set_of bcsm) Role.RouteFailure) && is_at Role.RouteFailure h) }
 {
-    if points::is_in(bcsm, Role::RouteFailure) {
-        return false;
-    }
-    record::is_at(Role::RouteFailure, h)
+    !points::is_in(bcsm, Role::RouteFailure) && matches!(h, Hold::At(Role::RouteFailure))
 }
 
 // Armed there, where it is none.
 fn is_armed_at_none(bcsm: Bcsm, a: [Arming; 10]) -> bool
     ensures { result ≡ (not (is_in (set_of bcsm) Role.RouteFailure) && not (is_mode (mode_at Role.RouteFailure a) Mode.None)) }
 {
-    if points::is_in(bcsm, Role::RouteFailure) {
-        return false;
-    }
-    let failure = armings::mode_at(Role::RouteFailure, a);
-    !armings::is_mode(failure, Mode::None)
+    !points::is_in(bcsm, Role::RouteFailure)
+        && armings::mode_at(Role::RouteFailure, a) != Mode::None
+}
+
+// Held at Moved.
+fn is_held_at_moved(h: Hold) -> bool
+    ensures { result ≡ is_at Role.Moved h }
+{
+    matches!(h, Hold::At(Role::Moved))
 }
 
 // Moved is never armed in mode 0.
 fn is_moved_in_range(a: [Arming; 10]) -> bool
     ensures { result ≡ not (is_mode (mode_at Role.Moved a) Mode.Interrupted) }
 {
-    let moved = armings::mode_at(Role::Moved, a);
-    !armings::is_mode(moved, Mode::Interrupted)
+    armings::mode_at(Role::Moved, a) != Mode::Interrupted
 }
 
 // The hold and the armings. (How this is written decides what the check of a slot costs: DECISIONS. An arming that is read by itself at another place breaks up the ten, which the check of a free slot reads at once.)
@@ -61,7 +60,7 @@ fn is_moved_in_range(a: [Arming; 10]) -> bool
 fn points_in_range(bcsm: Bcsm, h: Hold, a: [Arming; 10]) -> bool
     ensures { result ≡ (hold_in_range (set_of bcsm) h && armings_in_range (set_of bcsm) a) }
 {
-    !record::is_at(Role::Moved, h)
+    !is_held_at_moved(h)
         & is_moved_in_range(a)
         & !is_held_at_none(bcsm, h)
         & !is_armed_at_none(bcsm, a)
@@ -80,12 +79,8 @@ fn places_in_range(count: u8, digits: [u8; PLACES]) -> bool
     ensures { result ≡ places_in_range count digits }
 {
     let mut ok = true;
-    let mut i: u8 = 0;
-    while i < PLACES as u8 {
-        let j = i as usize;
-        let d = digits[j];
-        ok = ok & place_in_range(i < count, d);
-        i += 1;
+    for i in 0..PLACES as u8 {
+        ok = ok & place_in_range(i < count, digits[i as usize]);
     }
     ok
 }
@@ -94,48 +89,32 @@ fn places_in_range(count: u8, digits: [u8; PLACES]) -> bool
 fn number_in_range(n: Number) -> bool
     ensures { result ≡ number_in_range n }
 {
-    let nature = n.nature;
-    let count = n.count;
-    let digits = n.digits;
-    fields::is_nature(nature)
-        & fields::is_digit_count(count as usize)
-        & places_in_range(count, digits)
+    fields::is_nature(n.nature)
+        & fields::is_digit_count(n.count as usize)
+        & places_in_range(n.count, n.digits)
 }
 
 #[tactic(auto, unfolding(crate::specs::Range::in_range_of))]
 pub fn record_in_range(r: Record) -> bool
     ensures { result ≡ record_in_range r }
 {
-    let bcsm = r.bcsm;
-    let h = r.hold;
-    let last = r.last;
-    let a = r.armings;
-    let kept = r.kept;
-    let timer = r.timer;
-    let number = r.number;
-    let one = record::leg_at(Leg::One, r);
-    let two = record::leg_at(Leg::Two, r);
-    let c1 = one.charge;
-    let c2 = two.charge;
-    charge_in_range(c1, last)
-        & charge_in_range(c2, last)
-        & last.is_clock_reading()
-        & kept.is_timer()
-        & timer.is_default_timer()
-        & number_in_range(number)
-        & points_in_range(bcsm, h, a)
+    charge_in_range(record::leg_at(Leg::One, r).charge, r.last)
+        & charge_in_range(record::leg_at(Leg::Two, r).charge, r.last)
+        & r.last.is_clock_reading()
+        & r.kept.is_timer()
+        & r.timer.is_default_timer()
+        & number_in_range(r.number)
+        & points_in_range(r.bcsm, r.hold, r.armings)
 }
 
 // No field of the leg is set.
 fn is_unused(l: LegState) -> bool
     ensures { result ≡ is_unused l }
 {
-    let presence = l.presence;
-    let charge = l.charge;
-    let clock = charge.clock;
-    let period = charge.period;
-    let start = charge.start;
-    !record::is_present(presence) & !record::is_pending(clock) & (period.0 == 0) & (start.0 == 0)
+    !l.presence.is_present()
+        & !l.charge.clock.is_pending()
+        & (l.charge.period.0 == 0)
+        & (l.charge.start.0 == 0)
 }
 
 // No place is used. The empty ones are counted: measured, other loops take twice the time.
@@ -144,13 +123,10 @@ fn no_places(digits: [u8; PLACES]) -> bool
     ensures { result ≡ places_in_range 0 digits }
 {
     let mut empty: u32 = 0;
-    let mut i: usize = 0;
-    while i < PLACES {
-        let d = digits[i];
+    for d in digits {
         if d == 0 {
             empty += 1;
         }
-        i += 1;
     }
     empty == PLACES as u32
 }
@@ -158,10 +134,7 @@ fn no_places(digits: [u8; PLACES]) -> bool
 fn is_no_number(n: Number) -> bool
     ensures { result ≡ is_no_number n }
 {
-    let nature = n.nature;
-    let count = n.count;
-    let digits = n.digits;
-    (nature == 0) & (count == 0) & no_places(digits)
+    (n.nature == 0) & (n.count == 0) & no_places(n.digits)
 }
 
 // All but the armings and the called number.
@@ -169,24 +142,15 @@ fn is_no_number(n: Number) -> bool
 fn are_fields_blank(r: Record) -> bool
     ensures { result ≡ are_fields_blank r }
 {
-    let stage = r.stage;
-    let h = r.hold;
-    let last = r.last;
-    let kept = r.kept;
-    let timer = r.timer;
-    let handling = r.handling;
-    let bcsm = r.bcsm;
-    let one = record::leg_at(Leg::One, r);
-    let two = record::leg_at(Leg::Two, r);
-    stages::is_analysing(stage)
-        & is_unused(one)
-        & is_unused(two)
-        & !record::is_held(h)
-        & (last.0 == 0)
-        & (kept.0 == 0)
-        & (timer.0 == 0)
-        & !profile::is_release(handling)
-        & record::is_originating(bcsm)
+    (r.stage == Stage::Analysing)
+        & is_unused(record::leg_at(Leg::One, r))
+        & is_unused(record::leg_at(Leg::Two, r))
+        & !r.hold.is_held()
+        & (r.last.0 == 0)
+        & (r.kept.0 == 0)
+        & (r.timer.0 == 0)
+        & (r.handling == Handling::Continue)
+        & (r.bcsm == Bcsm::Originating)
 }
 
 // Every field zero or none, as in a free record. A record in use mostly leaves at the first test.
@@ -194,13 +158,5 @@ fn are_fields_blank(r: Record) -> bool
 pub fn is_blank(r: Record) -> bool
     ensures { result ≡ is_blank r }
 {
-    let a = r.armings;
-    let number = r.number;
-    if !are_fields_blank(r) {
-        return false;
-    }
-    if !armings::nothing_armed(a) {
-        return false;
-    }
-    is_no_number(number)
+    are_fields_blank(r) && armings::nothing_armed(r.armings) && is_no_number(r.number)
 }

@@ -1,32 +1,49 @@
 // The record of one call (document 01, One call), and records with some fields replaced.
 ghost use Rattle.std.specs.Prelude.{◌≡◌};
 ghost use Rattle.forms.specs.Bytes.{pad};
-ghost use Rattle.call.specs.Record.{leg, charge, no_charge, waiting, running, is_present, is_pending, is_held, is_trigger, is_at, is_originating, places, number_of, blank, made, timed, staged, with_legs, leg_at, with_leg};
+ghost use Rattle.call.specs.Record.{no_charge, waiting, running, is_present, is_pending, is_held, is_trigger, places, number_of, blank, made, timed, leg_at, with_leg};
 
+use crate::armings;
 use crate::armings::Arming;
 use crate::roles::Role;
 use crate::stages::Stage;
-use crate::{armings, roles};
 use forms::bytes;
 use forms::item::*;
 use forms::profile::Handling;
 use forms::units::*;
 
-#[derive(Clone, Copy)]
+// A leg is there or not. (Document 01 wants the legs as small enums in the record.)
+#[derive(Clone, Copy, PartialEq, Eq)]
 pub enum Presence {
     Absent,
     Present,
 }
 
+impl Presence {
+    pub(crate) fn is_present(self) -> bool
+        ensures { result ≡ is_present self }
+    {
+        self == Presence::Present
+    }
+}
+
 // The clock of a leg's charge: no charge is pending; it waits for the Answer; it runs.
-#[derive(Clone, Copy)]
+#[derive(Clone, Copy, PartialEq, Eq)]
 pub enum Clock {
     None,
     Waiting,
     Running,
 }
 
-// A leg's pending charge. The start is zero until the clock runs, and the period where no charge is pending.
+impl Clock {
+    pub(crate) fn is_pending(self) -> bool
+        ensures { result ≡ is_pending self }
+    {
+        self != Clock::None
+    }
+}
+
+// A leg's pending charge. The start is zero until the clock runs, and the period where no charge is pending. (No enum with its fields: a record of any values is handed in, and refusal 3 asks that the unused ones are zero.)
 #[derive(Clone, Copy)]
 pub struct Charge {
     pub clock: Clock,
@@ -41,7 +58,7 @@ pub struct LegState {
     pub charge: Charge,
 }
 
-// The point of suspension: none, the trigger's, or a met point.
+// The point of suspension: none, the trigger's, or a met point. (An enum of hold points in the record, by document 01; an Option of a role has no place for the trigger. It is matched and not compared: measured, a derived == takes 12 instructions more a slot in `feed`.)
 #[derive(Clone, Copy)]
 pub enum Hold {
     None,
@@ -49,10 +66,24 @@ pub enum Hold {
     At(Role),
 }
 
+impl Hold {
+    pub(crate) fn is_held(self) -> bool
+        ensures { result ≡ is_held self }
+    {
+        !matches!(self, Hold::None)
+    }
+
+    pub(crate) fn is_trigger(self) -> bool
+        ensures { result ≡ is_trigger self }
+    {
+        matches!(self, Hold::Trigger)
+    }
+}
+
 // The places for a called number's digits: one more than it can have, since 16 bytes make one vector.
 pub const PLACES: usize = 16;
 
-// The called number; the places past the count are zero.
+// The called number; the places past the count are zero. (No heap: the digits lie in the record, and refusal 3 looks at every place.)
 #[derive(Clone, Copy)]
 pub struct Number {
     pub nature: u8,
@@ -62,6 +93,7 @@ pub struct Number {
 
 // The fields stand by their size, the largest first and the small enums side by side: a byte between two fields that belongs to none is copied apart, with every copy of a record.
 // A leg lies in four fields: the rules take it out and put it in (`leg_at`, `with_leg`, `made`). The armings stand in the order of the roles. (The order of the last ten is among the fastest of some thirty that were measured.)
+// A kept timer of 0 is none. (No Option of one: document 01 counts it so, 0 to 2047, and refusal 3 looks at it.)
 #[derive(Clone, Copy)]
 pub struct Record {
     pub last: Tenths,
@@ -81,34 +113,6 @@ pub struct Record {
     pub leg2: Presence,
     pub clock2: Clock,
     pub bcsm: Bcsm,
-}
-
-pub(crate) fn is_present(p: Presence) -> bool
-    ensures { result ≡ is_present p }
-{
-    match p {
-        Presence::Absent => false,
-        Presence::Present => true,
-    }
-}
-
-pub(crate) fn is_pending(c: Clock) -> bool
-    ensures { result ≡ is_pending c }
-{
-    match c {
-        Clock::None => false,
-        Clock::Waiting => true,
-        Clock::Running => true,
-    }
-}
-
-pub(crate) fn is_originating(bcsm: Bcsm) -> bool
-    ensures { result ≡ is_originating bcsm }
-{
-    match bcsm {
-        Bcsm::Originating => true,
-        Bcsm::Terminating => false,
-    }
 }
 
 pub(crate) fn no_charge() -> Charge
@@ -141,37 +145,6 @@ pub(crate) fn running(period: Tenths, start: Tenths) -> Charge
     }
 }
 
-pub(crate) fn is_held(h: Hold) -> bool
-    ensures { result ≡ is_held h }
-{
-    match h {
-        Hold::None => false,
-        Hold::Trigger => true,
-        Hold::At(_) => true,
-    }
-}
-
-pub(crate) fn is_trigger(h: Hold) -> bool
-    ensures { result ≡ is_trigger h }
-{
-    match h {
-        Hold::None => false,
-        Hold::Trigger => true,
-        Hold::At(_) => false,
-    }
-}
-
-// Held at the role's point.
-pub(crate) fn is_at(p: Role, h: Hold) -> bool
-    ensures { result ≡ is_at p h }
-{
-    match h {
-        Hold::None => false,
-        Hold::Trigger => false,
-        Hold::At(q) => roles::is_role(q, p),
-    }
-}
-
 // The digits in their places.
 fn places_of(digits: &[u8]) -> [u8; PLACES]
     ensures { result ≡ pad places digits.now }
@@ -184,11 +157,10 @@ fn places_of(digits: &[u8]) -> [u8; PLACES]
 pub(crate) fn number_of(nature: u8, count: u8, digits: &[u8]) -> Number
     ensures { result ≡ number_of nature count digits.now }
 {
-    let places = places_of(digits);
     Number {
         nature,
         count,
-        digits: places,
+        digits: places_of(digits),
     }
 }
 
@@ -196,7 +168,6 @@ pub(crate) fn number_of(nature: u8, count: u8, digits: &[u8]) -> Number
 pub fn blank_record() -> Record
     ensures { result ≡ blank }
 {
-    let armings = armings::no_armings();
     Record {
         last: Tenths(0),
         period1: Tenths(0),
@@ -205,7 +176,7 @@ pub fn blank_record() -> Record
         start2: Tenths(0),
         kept: Seconds(0),
         timer: Seconds(0),
-        armings,
+        armings: armings::no_armings(),
         number: Number {
             nature: 0,
             count: 0,
@@ -222,38 +193,31 @@ pub fn blank_record() -> Record
     }
 }
 
-fn leg_of(presence: Presence, clock: Clock, period: Tenths, start: Tenths) -> LegState
-    ensures { result ≡ leg presence (charge clock period start) }
-{
-    let charge = Charge {
-        clock,
-        period,
-        start,
-    };
-    LegState { presence, charge }
-}
-
-// A leg is taken out of the record.
+// A leg is taken out of the record. (A function of a record by value, as `made`, `with_last` and `with_leg` below: document 01 wants one-call steps by value.)
 pub(crate) fn leg_at(leg: Leg, r: Record) -> LegState
     ensures { result ≡ leg_at leg r }
 {
-    let leg1 = r.leg1;
-    let clock1 = r.clock1;
-    let period1 = r.period1;
-    let start1 = r.start1;
-    let leg2 = r.leg2;
-    let clock2 = r.clock2;
-    let period2 = r.period2;
-    let start2 = r.start2;
-    let one = leg_of(leg1, clock1, period1, start1);
-    let two = leg_of(leg2, clock2, period2, start2);
     match leg {
-        Leg::One => one,
-        Leg::Two => two,
+        Leg::One => LegState {
+            presence: r.leg1,
+            charge: Charge {
+                clock: r.clock1,
+                period: r.period1,
+                start: r.start1,
+            },
+        },
+        Leg::Two => LegState {
+            presence: r.leg2,
+            charge: Charge {
+                clock: r.clock2,
+                period: r.period2,
+                start: r.start2,
+            },
+        },
     }
 }
 
-// All but the profile's defaults and the kind of call is given. (A field that is an enum is not stored to, so the record is written anew.)
+// All but the profile's defaults and the kind of call is given.
 pub(crate) fn made(
     r: Record,
     stage: Stage,
@@ -267,40 +231,26 @@ pub(crate) fn made(
 ) -> Record
     ensures { result ≡ made r stage one two hold last armings kept number }
 {
-    let leg1 = one.presence;
-    let leg2 = two.presence;
-    let charge1 = one.charge;
-    let charge2 = two.charge;
-    let clock1 = charge1.clock;
-    let clock2 = charge2.clock;
-    let period1 = charge1.period;
-    let period2 = charge2.period;
-    let start1 = charge1.start;
-    let start2 = charge2.start;
-    let timer = r.timer;
-    let handling = r.handling;
-    let bcsm = r.bcsm;
     Record {
         last,
-        period1,
-        start1,
-        period2,
-        start2,
+        period1: one.charge.period,
+        start1: one.charge.start,
+        period2: two.charge.period,
+        start2: two.charge.start,
         kept,
-        timer,
         armings,
         number,
         stage,
         hold,
-        handling,
-        leg1,
-        leg2,
-        clock1,
-        clock2,
-        bcsm,
+        leg1: one.presence,
+        clock1: one.charge.clock,
+        leg2: two.presence,
+        clock2: two.charge.clock,
+        ..r
     }
 }
 
+// A store into a copy: measured, a struct update takes 17 instructions more an item of `feed_sound`.
 pub(crate) fn with_last(r: Record, t: Tenths) -> Record
     ensures { result ≡ timed r t }
 {
@@ -309,36 +259,24 @@ pub(crate) fn with_last(r: Record, t: Tenths) -> Record
     s
 }
 
-pub(crate) fn with_stage_and_hold(r: Record, stage: Stage, hold: Hold) -> Record
-    ensures { result ≡ staged r stage hold }
-{
-    let last = r.last;
-    let armings = r.armings;
-    let kept = r.kept;
-    let number = r.number;
-    let one = leg_at(Leg::One, r);
-    let two = leg_at(Leg::Two, r);
-    made(r, stage, one, two, hold, last, armings, kept, number)
-}
-
-fn with_legs(r: Record, one: LegState, two: LegState) -> Record
-    ensures { result ≡ with_legs r one two }
-{
-    let stage = r.stage;
-    let hold = r.hold;
-    let last = r.last;
-    let armings = r.armings;
-    let kept = r.kept;
-    let number = r.number;
-    made(r, stage, one, two, hold, last, armings, kept, number)
-}
-
 // A leg is put into the record.
 pub(crate) fn with_leg(leg: Leg, r: Record, l: LegState) -> Record
     ensures { result ≡ with_leg leg r l }
 {
     match leg {
-        Leg::One => with_legs(r, l, leg_at(Leg::Two, r)),
-        Leg::Two => with_legs(r, leg_at(Leg::One, r), l),
+        Leg::One => Record {
+            leg1: l.presence,
+            clock1: l.charge.clock,
+            period1: l.charge.period,
+            start1: l.charge.start,
+            ..r
+        },
+        Leg::Two => Record {
+            leg2: l.presence,
+            clock2: l.charge.clock,
+            period2: l.charge.period,
+            start2: l.charge.start,
+            ..r
+        },
     }
 }

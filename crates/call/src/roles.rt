@@ -1,11 +1,11 @@
 // The roles, and what belongs to a role whatever its leg and its number are (document 01, One call).
-ghost use Rattle.std.specs.Prelude.{◌≡◌, ◌<◌, get_or};
-ghost use Rattle.call.specs.Roles.{part_of, roles, place_of, is_role, stage_after};
+ghost use Rattle.std.specs.Prelude.{◌≡◌, ◌<◌};
+ghost use Rattle.call.specs.Roles.{part_of, place_of, stage_after};
 
 use crate::stages::*;
 
 // What an armable pair of leg and detection point stands for: an event detection point (EDP), by what it tells of the call.
-#[derive(Clone, Copy)]
+#[derive(Clone, Copy, PartialEq, Eq)]
 pub enum Role {
     MidCall,
     Disconnect1,
@@ -19,7 +19,7 @@ pub enum Role {
     Seized,
 }
 
-// A row of the table of roles: the stages at which the role can be met and from which it can still occur, and whether its leg becomes absent when it is met.
+// A row of the table of roles: the stages at which the role can be met and from which it can still occur, and whether its leg becomes absent when it is met. (`leaves` is a column of its own: the spans are there either way.)
 #[derive(Clone, Copy)]
 pub struct Part {
     pub met: Span,
@@ -55,58 +55,33 @@ pub fn part_of(p: Role) -> Part
     }
 }
 
-// The place of a role, of its point in a point set, and of its arming.
+// The place of a role in `ROLES`, and of its arming among the ten.
 pub(crate) fn place_of(p: Role) -> usize
     ensures { (result ≡ place_of p) × (result < 10) }
 {
-    match p {
-        Role::MidCall => 0,
-        Role::Disconnect1 => 1,
-        Role::Abandon => 2,
-        Role::Moved => 3,
-        Role::RouteFailure => 4,
-        Role::Busy => 5,
-        Role::NoAnswer => 6,
-        Role::Answer => 7,
-        Role::Disconnect2 => 8,
-        Role::Seized => 9,
-    }
+    p as usize
 }
 
-// The role at a place.
-pub(crate) fn role_at(i: usize) -> Role
-    requires { i < 10 }
-    ensures { result ≡ get_or roles i Role.MidCall }
-{
-    let all = [
-        Role::MidCall,
-        Role::Disconnect1,
-        Role::Abandon,
-        Role::Moved,
-        Role::RouteFailure,
-        Role::Busy,
-        Role::NoAnswer,
-        Role::Answer,
-        Role::Disconnect2,
-        Role::Seized,
-    ];
-    all[i]
-}
-
-pub(crate) fn is_role(p: Role, q: Role) -> bool
-    ensures { result ≡ is_role p q }
-{
-    place_of(p) == place_of(q)
-}
+// The roles in their places.
+pub(crate) const ROLES: [Role; 10] = [
+    Role::MidCall,
+    Role::Disconnect1,
+    Role::Abandon,
+    Role::Moved,
+    Role::RouteFailure,
+    Role::Busy,
+    Role::NoAnswer,
+    Role::Answer,
+    Role::Disconnect2,
+    Role::Seized,
+];
 
 pub(crate) fn stage_after(p: Role, s: Stage) -> Stage
     ensures { result ≡ stage_after p s }
 {
-    if is_role(p, Role::Seized) {
-        Stage::Alerting
-    } else if is_role(p, Role::Answer) {
-        Stage::Active
-    } else {
-        s
+    match p {
+        Role::Seized => Stage::Alerting,
+        Role::Answer => Stage::Active,
+        _ => s,
     }
 }

@@ -2,101 +2,59 @@
 // `# ..` and an empty line come out as they are; `item HEX` and `profile HEX` give what was read, or the refusal; any other line gives `?`.
 #![tactic(auto)]
 
-mod hex;
 mod show;
-mod text;
 
-ghost use Rattle.std.specs.Prelude.{◌≤◌, length};
+use std::io;
+use std::io::{Stdout, Write};
 
-use forms::bytes;
-use hex::Hex;
-use std::io::Stdout;
-
-#[derive(Clone, Copy)]
-pub enum Form {
-    Item,
-    Profile,
+// Stores the bytes that t stands for at the start of d, and answers them: pairs of hexadecimal digits, with blanks between pairs. None where it is of another form, and where d is too short.
+fn unhex<'d>(t: &[u8], d: &'d mut [u8]) -> Option<&'d [u8]> {
+    let mut n = 0;
+    for digits in t.split(|c| *c == b' ') {
+        let room = d.get_mut(n..)?.get_mut(..digits.len() / 2)?;
+        hex::decode_to_slice(digits, room).ok()?;
+        n += digits.len() / 2;
+    }
+    d.get(..n)
 }
 
-// What a line is; of a vector, its form and the place where its digits begin.
-#[derive(Clone, Copy)]
-pub enum Line {
-    Copied,
-    Vector(Form, usize),
-    Other,
-}
-
-// A line goes by how it begins.
-fn line_of(t: &[u8]) -> Line {
-    if t.len() == 0 {
-        return Line::Copied;
-    }
-    if bytes::leads(b"#", t) {
-        return Line::Copied;
-    }
-    if bytes::leads(b"item", t) {
-        return Line::Vector(Form::Item, 4);
-    }
-    if bytes::leads(b"profile", t) {
-        return Line::Vector(Form::Profile, 7);
-    }
-    Line::Other
-}
-
-// The answer to the bytes of a vector: each form has its own reader.
-fn show_bytes(out: &mut Stdout, form: Form, s: &[u8]) {
-    match form {
-        Form::Item => show::show_item(out, s),
-        Form::Profile => show::show_profile(out, s),
-    }
-}
-
-// The answer to a vector whose digits are t.
-fn show_vector(out: &mut Stdout, form: Form, t: &[u8]) {
-    let mut d = [0u8; 256];
-    let got = hex::unhex(t, &mut d);
-    match got {
-        Hex::Bytes(n) => show_bytes(out, form, bytes::part_of(&d, 0, n)),
-        Hex::Wrong => text::put(out, b"?"),
-    }
-}
-
-// One line out for one line in, whatever it holds.
-fn show_line(out: &mut Stdout, t: &[u8]) {
-    let line = line_of(t);
-    match line {
-        Line::Copied => text::put(out, t),
-        Line::Vector(form, a) => show_vector(out, form, bytes::from(t, a)),
-        Line::Other => text::put(out, b"?"),
-    }
-    text::put(out, b"\n");
-}
-
-// The end of the line that is at place a: its line feed, or the end of the text.
-fn line_end(t: &[u8], a: usize) -> usize
-    requires { a ≤ length t.now }
-    ensures { (a ≤ result) × (result ≤ length t.now) }
+// The answer to a vector whose digits are t: each form has its own reader.
+fn show_vector<F: Fn(&mut Stdout, &[u8]) -> io::Result<()>>(
+    out: &mut Stdout,
+    t: &[u8],
+    show: F,
+) -> io::Result<()>
+    requires { F.IsAlwaysCallable show }
 {
-    let mut i = a;
-    while i < t.len() {
-        if t[i] == b'\n' {
-            return i;
-        }
-        i += 1;
+    let mut d = [0u8; 256];
+    match unhex(t, &mut d) {
+        Some(s) => show(out, s),
+        None => out.write_all(b"?"),
     }
-    i
+}
+
+// One line out for one line in, whatever it holds. A line goes by how it begins.
+fn show_line(out: &mut Stdout, t: &[u8]) -> io::Result<()> {
+    if t.is_empty() || t.starts_with(b"#") {
+        out.write_all(t)?;
+    } else if t.starts_with(b"item") {
+        show_vector(out, &t[4..], show::show_item)?;
+    } else if t.starts_with(b"profile") {
+        show_vector(out, &t[7..], show::show_profile)?;
+    } else {
+        out.write_all(b"?")?;
+    }
+    out.write_all(b"\n")
 }
 
 // Each line in its turn. The last one need not end in a line feed.
+// A write that fails goes unsaid: the output then lacks a part, and the comparison finds it.
 fn show_lines(out: &mut Stdout, t: &[u8]) {
-    let mut a = 0;
-    while a < t.len() {
-        let end = line_end(t, a);
-        show_line(out, &t[a..end]);
-        if end == t.len() {
-            return;
-        }
-        a = end + 1;
+    for line in t.split_inclusive(|c| *c == b'\n') {
+        let _ = match line {
+            [line @ .., b'\n'] => show_line(out, line),
+            _ => show_line(out, line),
+        };
     }
 }
 

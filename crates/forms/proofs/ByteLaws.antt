@@ -1,16 +1,18 @@
 -- Laws of byte runs, for the proofs of the functions and for the theorems.
-use Prim.Native.Nat.{ℕ, zero, suc, ◌+◌, ◌*◌, ◌/◌, ◌%◌, ◌^◌, ◌≤◌, ◌<◌}
+use Prim.Native.Nat.{ℕ, zero, suc, ◌+◌, ◌-◌, ◌*◌, ◌/◌, ◌%◌, ◌^◌, ◌≤◌, ◌<◌}
 use mathlib.Core.Path.{◌≡◌, refl, sym, ap, ◌∙◌}
 use mathlib.Core.List.{List, [], ◌∷◌, ◌++◌, append_assoc}
 use mathlib.Core.Bool.{Bool, true, false, ◌&&◌, cond, and-true, and-false, and_assoc, false≢true}
 use mathlib.Core.Logic.{◌⊎◌, inl, inr}
 use native.Mathlib.Numerals.{add-one}
-use native.Mathlib.Nat.{pow-suc, add-zero, zero-add, add-suc, suc-add}
+use native.Mathlib.Nat.{pow-suc, pow-le-pow_right, add-zero, zero-add, add-suc, suc-add}
 use lib.ListN.{length, get_or, take, drop, set, replicate, drop_of_length-le, length-append, length-replicate, length-take}
 use native.Mathlib.Omega.{arith}
-use lib.Dec.{eqb, leb, ltb}
-use lib.Seq.{drop-cons, get_or_at, sets, sets-eq, take-append_seam}
-use borrow.Author.Tests.{eq-eqb, ne_eqb, eqb-true, ltb-true, ltb-false, le-ltb, le-leb}
+use lib.Dec.{eqb, leb, ltb, lit<}
+use lib.Seq.{drop-cons, drop-drop, get_or_at, sets, sets-eq, take-append_seam}
+use borrow.Author.Tests.{eq-eqb, eqb-true, ltb-true, ltb-false, le-ltb, le-leb}
+use borrow.Rule.Slice.PartMut.{put_mid}
+use Rattle.std.specs.List.{list_all, list_any, starts_with}
 use Rattle.forms.specs.Bytes.{to_bytes, from_bytes, pad, within, all, contains, leads, same}
 use Rattle.forms.specs.Fields.{frame, framed}
 use Rattle.forms.specs.Framing.{framing_as, framing_of}
@@ -38,53 +40,31 @@ pub picked : {A : Type 0} (b : Bool) (x y z : A) → cond b x y ≡ z → (y ≡
 picked true x y z h n = (refl, h)
 picked false x y z h n = absurd (n h)
 
--- ---- loops over bytes
+-- ---- what std's methods of slices answer, in the words of specs/
 
--- a loop that tests each element: past the end, at one that passes, at one that fails
-pub all_end : (p : ℕ → Bool) (s : List ℕ) (i : ℕ) → length s ≤ i → all p (drop i s) ≡ true
+pub all_lem : (p : ℕ → Bool) (s : List ℕ) → list_all p s ≡ all p s
 unfolding all
-all_end p s i h = rw (drop_of_length-le s h)
+all_lem p [] = refl
+all_lem p (x ∷ s) = rw (all_lem p s)
 
-pub all_step : (p : ℕ → Bool) (s : List ℕ) (i : ℕ) → i < length s → p (get_or s i 0) ≡ true → all p (drop (i + 1) s) ≡ all p (drop i s)
-unfolding all
-all_step p s i h e = rw (add-one, drop-cons s i 0 h, e)
-
-pub all_stop : (p : ℕ → Bool) (s : List ℕ) (i : ℕ) → i < length s → p (get_or s i 0) ≡ false → all p (drop i s) ≡ false
-unfolding all
-all_stop p s i h e = rw (drop-cons s i 0 h, e)
-
--- a loop that looks for x: past the end, at it, at another
-pub contains_end : (x : ℕ) (t : List ℕ) (i : ℕ) → length t ≤ i → contains x (drop i t) ≡ false
+pub contains_lem : (x : ℕ) (t : List ℕ) → list_any (λ (y : ℕ). eqb y x) t ≡ contains x t
 unfolding contains
-contains_end x t i h = rw (drop_of_length-le t h)
+contains_lem x [] = refl
+contains_lem x (y ∷ t) = rw (contains_lem x t)
 
-pub contains_stop : (x : ℕ) (t : List ℕ) (i : ℕ) → i < length t → get_or t i 0 ≡ x → contains x (drop i t) ≡ true
-unfolding contains
-contains_stop x t i h e = rw (drop-cons t i 0 h, eq-eqb _ _ e)
-
-pub contains_step : (x : ℕ) (t : List ℕ) (i : ℕ) → i < length t → (get_or t i 0 ≡ x → ⊥) → contains x (drop (i + 1) t) ≡ contains x (drop i t)
-unfolding contains
-contains_step x t i h e = rw (add-one i, drop-cons t i 0 h, ne_eqb _ _ e)
-
--- a loop that compares each element with that of d: at the end of either, at one that differs, at one that agrees
-pub leads_end : (a d : List ℕ) (i : ℕ) → length a ≤ i → leads (drop i a) (drop i d) ≡ true
+pub leads_lem : (a d : List ℕ) → starts_with eqb d a ≡ leads a d
 unfolding leads
-leads_end a d i h = rw (drop_of_length-le a h)
+leads_lem [] d = refl
+leads_lem (x ∷ a) [] = refl
+leads_lem (x ∷ a) (y ∷ d) = rw (leads_lem a d)
 
-pub leads_short : (a d : List ℕ) (i : ℕ) → i < length a → length d ≤ i → leads (drop i a) (drop i d) ≡ false
-unfolding leads
-leads_short a d i h l = rw (drop-cons a i 0 h, drop_of_length-le d l)
+-- s copied into the part of d from place a to e
+pub copied : (d s t : List ℕ) (a e : ℕ) → t ≡ s → e ≡ a + length s → e ≤ length d → put_mid a (e - a) d t ≡ sets d a s
+copied d s t a e p q l =
+    let k : e - a ≡ length s = omega arith in
+    rw (p, k, sets-eq s d a (rw q at l), drop-drop (length s) a d, append_assoc)
 
-module _ (a d : List ℕ) (i : ℕ) (h : i < length a) (l : i < length d) where
-  pub leads_stop : (get_or a i 0 ≡ get_or d i 0 → ⊥) → leads (drop i a) (drop i d) ≡ false
-  unfolding leads
-  leads_stop e = rw (drop-cons a i 0 h, drop-cons d i 0 l, ne_eqb _ _ e)
-
-  pub leads_step : get_or a i 0 ≡ get_or d i 0 → leads (drop (i + 1) a) (drop (i + 1) d) ≡ leads (drop i a) (drop i d)
-  unfolding leads
-  leads_step e = rw (add-one i, drop-cons a i 0 h, drop-cons d i 0 l, eq-eqb _ _ e)
-
--- a loop that stores the elements of s from place a on: what is left to store, at the start, after a turn, at the end
+-- Cited by no proof any more; docs/PORT.md names them. A loop that stores the elements of s from place a on: what is left to store, at the start, after a turn, at the end.
 pub sets_start : (d s : List ℕ) (a : ℕ) → sets d (a + 0) (drop 0 s) ≡ sets d a s
 sets_start d s a = rw add-zero
 
@@ -113,13 +93,14 @@ pad_is (suc n) (x ∷ s) h = ap (λ (r : List ℕ). x ∷ r) (pad_is n s (omega 
 pub pad_front : (n : ℕ) (s : List ℕ) → length s ≤ n → take (length s) (pad n s) ≡ s
 pad_front n s h = ap (take (length s)) (pad_is n s h) ∙ take-append_seam s (drop (length s) (replicate n 0))
 
--- a run stored in n zeros; and the first n bytes of one that may be longer
+-- a run stored in n zeros
 pub pad_stored : (n : ℕ) (s : List ℕ) → length s ≤ n → sets (replicate n 0) 0 s ≡ pad n s
 pad_stored n s h =
     let z : List ℕ = replicate n 0 in
     let r : 0 + length s ≤ length z = omega (arith, length-replicate {A = ℕ} n 0) in
     sets-eq s z 0 r ∙ ap (λ (k : ℕ). s ++ drop k z) (zero-add (length s)) ∙ sym (pad_is n s h)
 
+-- Cited by no proof any more; docs/PORT.md names it. The first n bytes of a run that may be longer.
 pad_taken : (n : ℕ) (s : List ℕ) → pad n (take n s) ≡ pad n s
 pad_taken zero s = refl
 pad_taken (suc n) [] = refl
@@ -192,6 +173,10 @@ framed_whole low high {b} e l u h = rw (← e) (go (rw (← e) at l) (rw (← e)
 length_bytes : (w n : ℕ) → length (to_bytes w n) ≡ w
 length_bytes zero n = refl
 length_bytes (suc w) n = rw (length-append (to_bytes w (n / 256)) (n % 256 ∷ []), length_bytes w (n / 256)) (omega arith)
+
+-- what the loop over the bytes of a number adds, fits
+pub number_fits : (w i n b : ℕ) → w ≤ 8 → i < w → n < 256 ^ i → b < 256 → n * 256 + b < 256 ^ 8
+number_fits w i n b h l m p = let e : i ≤ 7 = omega arith in let k : 256 ^ i ≤ 256 ^ 7 = pow-le-pow_right (lit< tt) e in omega arith
 
 -- a number reads back from its bytes
 pub number_back : (w n : ℕ) (t : List ℕ) → n < 256 ^ w → from_bytes w (to_bytes w n ++ t) ≡ n

@@ -6,46 +6,40 @@ use mathlib.Core.Path.{◌≡◌, refl}
 use mathlib.Core.List.{List, [], ◌∷◌, ◌++◌, map}
 use mathlib.Core.Bool.{true, false}
 use lib.ListN.{length, replicate}
+use Rattle.std.specs.Prelude.{Some, None, Result, Ok, Err}
 use Rattle.forms.specs.Bytes.{pad, all, leads, same}
 use Rattle.forms.specs.Units.{period_of, timer_of, tenths_of}
 use Rattle.forms.specs.Framing.{framing_of, item_framing, profile_framing}
-use Rattle.forms.specs.Item.{item_bytes, item_in_range, rest_at, body_from, body_of, item_of, is_item, read_item, read_item_at, entry_of, read_entry}
+use Rattle.forms.specs.Item.{item_bytes, item_in_range, rest_at, setup_of, body_from, body_of, item_of, is_item, read_item, read_item_at, entry_of, read_entry}
 use Rattle.forms.specs.Write.{writable, written, after}
 use Rattle.forms.specs.Feeder.{gathered, holding, new_feeder, stopped_feeder, is_closed, take_of, without_item, feed_of, reset_of, joined}
 use Rattle.forms.specs.Comparison.{leading, not_leading, pairs_of, compare_on, comparison}
 use Rattle.forms.specs.Profile.{Profile, fields_of, profile_bytes, profile_in_range, numbers_at, numbers_end, view_at, view_of, profile_of, is_profile, read_profile, Number, matches, some_matches}
-use Rattle.forms.specs.declared.units.Period.TheVariants as N
-use Rattle.forms.specs.declared.units.Timer.TheVariants as T
+use Rattle.forms.specs.declared.refusal.Refusal.{Refusal}
+use Rattle.forms.specs.declared.refusal.Refusal.TheVariants.{MalformedItem, MalformedProfile, BadEntry, FeederClosed}
 use Rattle.forms.specs.declared.framing.Framing.TheVariants as F
-use Rattle.forms.specs.declared.write.Written.{Written}
-use Rattle.forms.specs.declared.write.Written.TheVariants as W
 use Rattle.forms.specs.declared.item.Item.{Item}
 use Rattle.forms.specs.declared.item.Leg.TheVariants.{One, Two}
 use Rattle.forms.specs.declared.item.Body.{Body}
 use Rattle.forms.specs.declared.item.Bcsm.TheVariants.{Originating, Terminating}
 use Rattle.forms.specs.declared.item.Body.TheVariants as B
-use Rattle.forms.specs.declared.item.ReadItem.{ReadItem}
-use Rattle.forms.specs.declared.item.ReadItem.TheVariants as R
-use Rattle.forms.specs.declared.item.ReadEntry.TheVariants as E
 use Rattle.forms.specs.declared.feeder.Feeder.{Feeder}
-use Rattle.forms.specs.declared.feeder.Completed.TheVariants as C
 use Rattle.forms.specs.declared.profile.Handling.TheVariants.{Continue, Release}
 use Rattle.forms.specs.declared.profile.Criterion.TheVariants.{Absent, Enabling, Inhibiting}
-use Rattle.forms.specs.declared.profile.ReadProfile.TheVariants as P
 
 pub record Case : Type 0 where
   pub bytes : List ℕ
-  pub says : ReadItem
+  pub says : Result (Item × ℕ) Refusal
 
 abbrev of_call7 : ℕ → Body → Item
 of_call7 time body = record { call = 7; time = record { 0 = time }; body = body }
 
 -- bytes that are the item of call 7 with this time and body, whose digits or entries begin at this place
 abbrev reads : List ℕ → ℕ → Body → ℕ → Case
-reads bytes time body place = record { bytes = bytes; says = R.Item (of_call7 time body) place }
+reads bytes time body place = record { bytes = bytes; says = Ok (of_call7 time body, place) }
 
 abbrev malformed : List ℕ → Case
-malformed bytes = record { bytes = bytes; says = R.Refused 1 }
+malformed bytes = record { bytes = bytes; says = Err MalformedItem }
 
 -- bytes of call 7 at 1000: length, version, kind and body as given
 abbrev item : ℕ → ℕ → ℕ → List ℕ → List ℕ
@@ -70,15 +64,15 @@ pub edges_hold : map (λ (c : Case). read_item c.bytes) edges ≡ map (λ (c : C
 unfolding all same item_bytes item_in_range rest_at body_from body_of item_of is_item read_item
 edges_hold = refl
 
-pub p2_entry : read_entry p2 15 ≡ E.Entry (record { point = 6; leg = 2; mode = 0; timer = record { 0 = 30 } }) 20
+pub p2_entry : read_entry p2 15 ≡ Some (record { point = 6; leg = 2; mode = 0; timer = record { 0 = 30 } }, 20)
 unfolding read_entry entry_of
 p2_entry = refl
 
 -- Units: periods at both ends of 1..864000, 1 outside; timers at both ends of 0..2047, 11 outside (P7, P10); and "seconds × 10 = tenths", as for P3's 30 seconds
-pub periods : map period_of (0 ∷ 1 ∷ 864000 ∷ 864001 ∷ []) ≡ N.Refused 1 ∷ N.Of (record { 0 = 1 }) ∷ N.Of (record { 0 = 864000 }) ∷ N.Refused 1 ∷ []
+pub periods : map period_of (0 ∷ 1 ∷ 864000 ∷ 864001 ∷ []) ≡ Err MalformedItem ∷ Ok (record { 0 = 1 }) ∷ Ok (record { 0 = 864000 }) ∷ Err MalformedItem ∷ []
 periods = refl
 
-pub timers : map timer_of (0 ∷ 2047 ∷ 2048 ∷ []) ≡ T.Of (record { 0 = 0 }) ∷ T.Of (record { 0 = 2047 }) ∷ T.Refused 11 ∷ []
+pub timers : map timer_of (0 ∷ 2047 ∷ 2048 ∷ []) ≡ Ok (record { 0 = 0 }) ∷ Ok (record { 0 = 2047 }) ∷ Err BadEntry ∷ []
 timers = refl
 
 pub across : map (λ (n : ℕ). (tenths_of (record { 0 = n })).0) (0 ∷ 30 ∷ 2047 ∷ []) ≡ 0 ∷ 300 ∷ 20470 ∷ []
@@ -91,7 +85,7 @@ row kind bytes body place = reads (item (14 + length bytes) 1 kind bytes) 1000 b
 -- a line a kind, each field at its first and its last value
 abbrev kinds : List Case
 kinds =
-    row 1 (0 ∷ 255 ∷ 0 ∷ 1 ∷ 0 ∷ []) (B.Setup Originating 0 255 false 1) 18 ∷ row 1 (127 ∷ 0 ∷ 1 ∷ 15 ∷ replicate 15 14) (B.Setup Originating 127 0 true 15) 18
+    row 1 (0 ∷ 255 ∷ 0 ∷ 1 ∷ 0 ∷ []) (B.Setup (setup_of Originating 0 255 false 1)) 18 ∷ row 1 (127 ∷ 0 ∷ 1 ∷ 15 ∷ replicate 15 14) (B.Setup (setup_of Originating 127 0 true 15)) 18
     ∷ row 2 (0 ∷ []) (B.RouteFailure 0) 15 ∷ row 2 (127 ∷ []) (B.RouteFailure 127) 15
     ∷ row 3 (0 ∷ []) (B.Busy 0) 15 ∷ row 3 (127 ∷ []) (B.Busy 127) 15
     ∷ row 4 [] B.NoAnswer 14
@@ -101,7 +95,7 @@ kinds =
     ∷ row 8 [] B.Moved 14
     ∷ row 9 (1 ∷ 0 ∷ []) (B.Clear One 0) 16 ∷ row 9 (2 ∷ 127 ∷ []) (B.Clear Two 127) 16
     ∷ row 10 (1 ∷ []) (B.PeriodOver One) 15 ∷ row 10 (2 ∷ []) (B.PeriodOver Two) 15
-    ∷ row 11 (0 ∷ 255 ∷ 0 ∷ 1 ∷ 0 ∷ []) (B.Setup Terminating 0 255 false 1) 18 ∷ row 11 (127 ∷ 0 ∷ 1 ∷ 15 ∷ replicate 15 14) (B.Setup Terminating 127 0 true 15) 18
+    ∷ row 11 (0 ∷ 255 ∷ 0 ∷ 1 ∷ 0 ∷ []) (B.Setup (setup_of Terminating 0 255 false 1)) 18 ∷ row 11 (127 ∷ 0 ∷ 1 ∷ 15 ∷ replicate 15 14) (B.Setup (setup_of Terminating 127 0 true 15)) 18
     ∷ row 20 (1 ∷ replicate 5 255) (B.RequestReport 1) 15 ∷ row 20 (10 ∷ replicate 50 0) (B.RequestReport 10) 15
     ∷ row 21 [] B.Continue 14
     ∷ row 22 (0 ∷ 1 ∷ 0 ∷ []) (B.Connect 0 1) 16 ∷ row 22 (127 ∷ 15 ∷ replicate 15 14) (B.Connect 127 15) 16
@@ -112,9 +106,9 @@ kinds =
     -- "call (4), time (6)", big-endian: ten different bytes; and the last call and clock reading
     ∷ record {
       bytes = 0 ∷ 14 ∷ 1 ∷ 6 ∷ 0x01 ∷ 0x02 ∷ 0x03 ∷ 0x04 ∷ 0x05 ∷ 0x06 ∷ 0x07 ∷ 0x08 ∷ 0x09 ∷ 0x0A ∷ [];
-      says = R.Item (record { call = 0x01020304; time = record { 0 = 0x05060708090A }; body = B.Answer }) 14;
+      says = Ok (record { call = 0x01020304; time = record { 0 = 0x05060708090A }; body = B.Answer }, 14);
     }
-    ∷ record { bytes = 0 ∷ 14 ∷ 1 ∷ 6 ∷ replicate 10 255; says = R.Item (record { call = 4294967295; time = record { 0 = 281474976710655 }; body = B.Answer }) 14 }
+    ∷ record { bytes = 0 ∷ 14 ∷ 1 ∷ 6 ∷ replicate 10 255; says = Ok (record { call = 4294967295; time = record { 0 = 281474976710655 }; body = B.Answer }, 14) }
     ∷ []
 
 pub kinds_read : map (λ (c : Case). read_item c.bytes) kinds ≡ map (λ (c : Case). c.says) kinds
@@ -124,16 +118,16 @@ kinds_read = refl
 -- an item from a place on: P2 behind three bytes, its entries at 3 + 15; a byte too early; past the end
 pub items_at :
     map (read_item_at (9 ∷ 9 ∷ 9 ∷ p2)) (3 ∷ 2 ∷ 24 ∷ [])
-    ≡ R.Item (of_call7 1000 (B.RequestReport 1)) 18 ∷ R.Refused 1 ∷ R.Refused 1 ∷ []
+    ≡ Ok (of_call7 1000 (B.RequestReport 1), 18) ∷ Err MalformedItem ∷ Err MalformedItem ∷ []
 unfolding all same item_bytes item_in_range rest_at body_from body_of item_of is_item read_item read_item_at
 items_at = refl
 
 -- "point, leg, mode, timer (2 bytes)": two entries from place 1 on, and the end where four bytes are left
 pub entries :
     map (read_entry (2 ∷ 1 ∷ 2 ∷ 3 ∷ 4 ∷ 5 ∷ 255 ∷ 254 ∷ 253 ∷ 252 ∷ 251 ∷ 1 ∷ 2 ∷ 3 ∷ 4 ∷ [])) (1 ∷ 6 ∷ 11 ∷ 16 ∷ [])
-    ≡ E.Entry (record { point = 1; leg = 2; mode = 3; timer = record { 0 = 0x0405 } }) 6
-    ∷ E.Entry (record { point = 255; leg = 254; mode = 253; timer = record { 0 = 0xFCFB } }) 11
-    ∷ E.End ∷ E.End ∷ []
+    ≡ Some (record { point = 1; leg = 2; mode = 3; timer = record { 0 = 0x0405 } }, 6)
+    ∷ Some (record { point = 255; leg = 254; mode = 253; timer = record { 0 = 0xFCFB } }, 11)
+    ∷ None ∷ None ∷ []
 unfolding read_entry entry_of
 entries = refl
 
@@ -142,15 +136,15 @@ pub record Writing : Type 0 where
   pub item : Item
   pub rest : List ℕ
   pub buffer : List ℕ
-  pub answer : Written
+  pub answer : Result ℕ Refusal
   pub left : List ℕ
 
 -- an item of call 7 into n nines: written, nines behind it; or refused, and nothing is written
 abbrev writes : ℕ → Body → List ℕ → ℕ → List ℕ → ℕ → Writing
-writes time body rest n bytes behind = record { item = of_call7 time body; rest = rest; buffer = replicate n 9; answer = W.Length (length bytes); left = bytes ++ replicate behind 9 }
+writes time body rest n bytes behind = record { item = of_call7 time body; rest = rest; buffer = replicate n 9; answer = Ok (length bytes); left = bytes ++ replicate behind 9 }
 
 abbrev refuses : ℕ → Body → List ℕ → ℕ → Writing
-refuses time body rest n = record { item = of_call7 time body; rest = rest; buffer = replicate n 9; answer = W.Refused 1; left = replicate n 9 }
+refuses time body rest n = record { item = of_call7 time body; rest = rest; buffer = replicate n 9; answer = Err MalformedItem; left = replicate n 9 }
 
 -- P2's entry
 abbrev entry : List ℕ
@@ -219,7 +213,7 @@ bad_items =
     ∷ item 15 1 20 (0 ∷ []) ∷ item 70 1 20 (11 ∷ replicate 55 0) ∷ item 19 1 20 (1 ∷ replicate 4 0) ∷ item 17 1 22 (128 ∷ 1 ∷ 4 ∷ []) ∷ item 16 1 22 (4 ∷ 0 ∷ []) ∷ item 32 1 22 (4 ∷ 16 ∷ replicate 16 4) ∷ item 17 1 22 (4 ∷ 1 ∷ 15 ∷ [])
     ∷ [])
 
-pub bad_items_refused : map read_item bad_items ≡ map (λ (s : List ℕ). R.Refused 1) bad_items
+pub bad_items_refused : map read_item bad_items ≡ map (λ (s : List ℕ). Err MalformedItem) bad_items
 unfolding all same item_bytes item_in_range rest_at body_from body_of item_of is_item read_item
 bad_items_refused = refl
 
@@ -252,7 +246,7 @@ profiles =
     }
     ∷ []
 
-pub profiles_read : (map (λ (c : ProfileCase). read_profile c.bytes) profiles ≡ map (λ (c : ProfileCase). P.Profile (view_of c.bytes)) profiles) × (map (λ (c : ProfileCase). profile_of c.bytes) profiles ≡ map (λ (c : ProfileCase). c.value) profiles)
+pub profiles_read : (map (λ (c : ProfileCase). read_profile c.bytes) profiles ≡ map (λ (c : ProfileCase). Ok (view_of c.bytes)) profiles) × (map (λ (c : ProfileCase). profile_of c.bytes) profiles ≡ map (λ (c : ProfileCase). c.value) profiles)
 unfolding joined all same fields_of profile_bytes profile_in_range numbers_at numbers_end view_at profile_of is_profile read_profile
 profiles_read = (refl, refl)
 
@@ -275,7 +269,7 @@ bad_profiles =
     ∷ profile 11 1 (0 ∷ 120 ∷ 1 ∷ 0 ∷ 1 ∷ 0 ∷ 0 ∷ 0 ∷ []) ∷ profile 11 1 (0 ∷ 120 ∷ 1 ∷ 0 ∷ 1 ∷ 16 ∷ 0 ∷ 0 ∷ []) ∷ profile 14 1 (0 ∷ 120 ∷ 1 ∷ 0 ∷ 4 ∷ 4 ∷ 4 ∷ 4 ∷ 4 ∷ 0 ∷ 0 ∷ []) ∷ profile 16 1 (0 ∷ 120 ∷ 0 ∷ 0 ∷ 0 ∷ 6 ∷ replicate 7 0)
     ∷ []
 
-pub bad_profiles_refused : map read_profile bad_profiles ≡ map (λ (s : List ℕ). P.Refused 2) bad_profiles
+pub bad_profiles_refused : map read_profile bad_profiles ≡ map (λ (s : List ℕ). Err MalformedProfile) bad_profiles
 unfolding all same fields_of profile_bytes profile_in_range numbers_at numbers_end view_at profile_of is_profile read_profile
 bad_profiles_refused = refl
 
@@ -303,16 +297,16 @@ profile_runs = refl
 -- T-02: length fields 13, 14, 65 and 66, and a byte more, for a new feeder
 pub length_fields :
     map (λ (n : ℕ). feed_of new_feeder (0 ∷ n ∷ 9 ∷ [])) (13 ∷ 14 ∷ 65 ∷ 66 ∷ [])
-    ≡ without_item stopped_feeder 2 (C.Refused 1)
-    ∷ without_item (holding (gathered (0 ∷ 14 ∷ 9 ∷ []))) 3 C.UsedUp
-    ∷ without_item (holding (gathered (0 ∷ 65 ∷ 9 ∷ []))) 3 C.UsedUp
-    ∷ without_item stopped_feeder 2 (C.Refused 1)
+    ≡ without_item stopped_feeder 2 (Err MalformedItem)
+    ∷ without_item (holding (gathered (0 ∷ 14 ∷ 9 ∷ []))) 3 (Ok None)
+    ∷ without_item (holding (gathered (0 ∷ 65 ∷ 9 ∷ []))) 3 (Ok None)
+    ∷ without_item stopped_feeder 2 (Err MalformedItem)
     ∷ []
 unfolding framing_of is_closed take_of feed_of
 length_fields = refl
 
 -- a malformed item, of version 2: answered 1, and not handed out
-pub malformed_fed : feed_of new_feeder (item 14 2 6 []) ≡ without_item new_feeder 14 (C.Refused 1)
+pub malformed_fed : feed_of new_feeder (item 14 2 6 []) ≡ without_item new_feeder 14 (Err MalformedItem)
 unfolding all same item_bytes item_in_range rest_at body_from body_of item_of is_item read_item framing_of is_closed take_of feed_of
 malformed_fed = refl
 
@@ -324,7 +318,7 @@ closed_feeders =
     ∷ holding (gathered (0 ∷ 14 ∷ replicate 12 0)) ∷ holding (gathered (0 ∷ 14 ∷ replicate 13 0)) ∷ holding (gathered (0 ∷ 65 ∷ replicate 63 0)) ∷ holding (record { bytes = pad 65 (0 ∷ 65 ∷ []); count = 66 })
     ∷ []
 
-pub closed_refused : map (λ (f : Feeder). feed_of f (1 ∷ [])) closed_feeders ≡ map (λ (f : Feeder). without_item f 0 (C.Refused 15)) closed_feeders
+pub closed_refused : map (λ (f : Feeder). feed_of f (1 ∷ [])) closed_feeders ≡ map (λ (f : Feeder). without_item f 0 (Err FeederClosed)) closed_feeders
 unfolding framing_of is_closed take_of feed_of
 closed_refused = refl
 

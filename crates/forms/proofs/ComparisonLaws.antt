@@ -1,16 +1,18 @@
 -- Laws of the digit comparison: for the proof of `compare`, and that what it answers is what `leads` says.
 use Prim.Native.Nat.{ℕ, zero, suc, ◌+◌, ◌-◌, ◌≤◌, ◌<◌}
-use mathlib.Core.Path.{◌≡◌, refl, sym, ap, ◌∙◌}
+use mathlib.Core.Path.{◌≡◌, refl, sym, ap, ◌∙◌, subst}
 use mathlib.Core.List.{List, [], ◌∷◌, ◌++◌}
-use mathlib.Core.Bool.{Bool, true, false, ◌&&◌, and-false, and_comm}
+use mathlib.Core.Bool.{Bool, true, false, ◌&&◌, not, cond, and-false, and_comm}
 use mathlib.Core.Logic.{⊎_elim}
 use native.Mathlib.Numerals.{add-one}
-use native.Mathlib.Nat.{add-suc}
+use native.Mathlib.Nat.{add-zero}
 use native.Mathlib.Omega.{arith}
 use lib.ListN.{length, get_or, take, drop, drop_of_length-le, length-append, length-drop, take-append-drop}
-use lib.Dec.{eqb}
+use lib.Dec.{eqb, ltb}
 use lib.Seq.{drop-cons, length-take-le}
 use borrow.Author.Tests.{eq-eqb, ne_eqb, le-ltb, lt-ltb}
+use Rattle.std.specs.Prelude.{Option, Some, None, zip}
+use Rattle.std.specs.List.{position_or_len}
 use Rattle.forms.specs.Bytes.{leads}
 use Rattle.forms.specs.Comparison.{leading, not_leading, pairs_of, last_first, compare_on, comparison}
 use Rattle.forms.proofs.ByteLaws.{below_or_past}
@@ -84,20 +86,53 @@ module _ (a d : List ℕ) (h : 0 < length a) (l : length a ≤ length d) where
   unfolding compare_on
   last_agrees e = rw (in_order, eq-eqb _ _ e)
 
--- ---- the loop over the pairs from the front, i of which and the last were compared: at the end, at a pair that differs, at one that agrees
+-- ---- the pairs from the front, n of which were compared before: the first that differs, or none
 
-pub front_end : (a d : List ℕ) (i : ℕ) → length a ≤ i → compare_on (i + 1) (pairs_of (drop i a) (drop i d)) ≡ leading (i + 1)
+abbrev pub differs : ℕ × ℕ → Bool
+differs p = not (eqb p.0 p.1)
+
+front : (n : ℕ) (a d : List ℕ) → length a ≤ length d
+    → let k = position_or_len differs (zip a d) in compare_on n (pairs_of a d) ≡ cond (ltb k (length (zip a d))) (not_leading (n + k + 1)) (leading (n + length a))
 unfolding pairs_of compare_on
-front_end a d i h = rw (drop_of_length-le a h)
+front n [] d h = rw add-zero
+front n (x ∷ a) [] h = absurd (omega arith)
+front n (x ∷ a) (y ∷ d) h = go (eqb x y) (front (suc n) a d (omega arith))
+  where
+    k : ℕ
+    k = position_or_len differs (zip a d)
 
-module _ (a d : List ℕ) (i : ℕ) (h : i < length a) (l : i < length d) where
-  pub front_stop : (get_or a i 0 ≡ get_or d i 0 → ⊥) → compare_on (i + 1) (pairs_of (drop i a) (drop i d)) ≡ not_leading (i + 2)
-  unfolding pairs_of compare_on
-  front_stop e = rw (drop-cons a i 0 h, drop-cons d i 0 l, ne_eqb _ _ e, ← add-suc i 1)
+    m : ℕ
+    m = length (zip a d)
 
-  pub front_step : get_or a i 0 ≡ get_or d i 0 → compare_on (i + 1 + 1) (pairs_of (drop (i + 1) a) (drop (i + 1) d)) ≡ compare_on (i + 1) (pairs_of (drop i a) (drop i d))
-  unfolding pairs_of compare_on
-  front_step e = rw (drop-cons a i 0 h, drop-cons d i 0 l, eq-eqb _ _ e, add-one (i + 1), add-one i)
+    -- where the first two agree, one more was compared
+    later : compare_on (suc n) (pairs_of a d) ≡ cond (ltb k m) (not_leading (suc n + k + 1)) (leading (suc n + length a)) → compare_on (suc n) (pairs_of a d) ≡ cond (ltb (1 + k) (suc m)) (not_leading (n + (1 + k) + 1)) (leading (n + suc (length a)))
+    later e =
+        let p : suc n + k + 1 ≡ n + (1 + k) + 1 = omega arith in
+        let q : suc n + length a ≡ n + suc (length a) = omega arith in
+        ⊎_elim
+        (λ (l : k < m). rw (lt-ltb (1 + k) (suc m) (omega arith), ← p) (e ∙ rw (lt-ltb k m l)))
+        (λ (l : m ≤ k). rw (le-ltb (1 + k) (suc m) (omega arith), ← q) (e ∙ rw (le-ltb k m l)))
+        (below_or_past k m)
+
+    go : (b : Bool) → compare_on (suc n) (pairs_of a d) ≡ cond (ltb k m) (not_leading (suc n + k + 1)) (leading (suc n + length a))
+        → let j = cond (not (not b)) (1 + k) 0 in compare_on n (b ∷ pairs_of a d) ≡ cond (ltb j (suc m)) (not_leading (n + j + 1)) (leading (n + suc (length a)))
+    go true e = later e
+    go false e = rw (lt-ltb 0 (suc m) (omega arith), add-zero, add-one)
+
+-- what `position` answers decides the comparison
+abbrev pub Front : List ℕ → List ℕ → Option ℕ → Type 0
+Front a d None = compare_on 1 (pairs_of a d) ≡ leading (length a + 1)
+Front a d (Some i) = compare_on 1 (pairs_of a d) ≡ not_leading (i + 2)
+
+pub front_is : (a d : List ℕ) → length a ≤ length d → (r : Option ℕ) → r ≡ (let k = position_or_len differs (zip a d) in cond (ltb k (length (zip a d))) (Some k) None) → Front a d r
+front_is a d h r e = subst (Front a d) (sym e) (go (ltb k (length (zip a d))) (front 1 a d h))
+  where
+    k : ℕ
+    k = position_or_len differs (zip a d)
+
+    go : (b : Bool) → compare_on 1 (pairs_of a d) ≡ cond b (not_leading (1 + k + 1)) (leading (1 + length a)) → Front a d (cond b (Some k) None)
+    go true p = let q : 1 + k + 1 ≡ k + 2 = omega arith in rw q at p
+    go false p = let q : 1 + length a ≡ length a + 1 = omega arith in rw q at p
 
 -- ---- "Every answer stays as it is"
 

@@ -7,18 +7,18 @@ use native.Mathlib.Nat.{add-zero}
 use native.Mathlib.Omega.{arith}
 use lib.ListN.{length, take, drop, length-append, length-drop}
 use lib.Seq.{take-append_seam, drop-append_seam, take-append-le, drop-append-le, take-append-add, drop-append-add}
+use Rattle.std.specs.Prelude.{Some, Result, Ok, Err}
 use Rattle.forms.specs.Framing.{framing_of}
 use Rattle.forms.specs.Item.{item_bytes, item_in_range, rest_at, item_of, is_item, read_item}
 use Rattle.forms.specs.Feeder.{bytes_of, gathered, holding, new_feeder, stopped_feeder, begins, is_closed, taken_as, take_of, whole_fed, whole_fed_as, fed_as, feed_of, reset_of, Placed, Got, nothing_but, and_then, is_answer, placed, offered, chunk_fed, chunks_fed, joined, run_as, run_from, run_of}
 use Rattle.forms.specs.declared.framing.Framing.{Framing}
 use Rattle.forms.specs.declared.framing.Framing.TheVariants as F
 use Rattle.forms.specs.declared.item.Item.{Item}
-use Rattle.forms.specs.declared.item.ReadItem.{ReadItem}
-use Rattle.forms.specs.declared.item.ReadItem.TheVariants as R
+use Rattle.forms.specs.declared.refusal.Refusal.{Refusal}
+use Rattle.forms.specs.declared.refusal.Refusal.TheVariants.{MalformedItem}
 use Rattle.forms.specs.declared.feeder.Feeder.{Feeder}
 use Rattle.forms.specs.declared.feeder.Taken.{Taken}
 use Rattle.forms.specs.declared.feeder.Taken.TheVariants as T
-use Rattle.forms.specs.declared.feeder.Completed.TheVariants as C
 use Rattle.forms.specs.declared.feeder.Fed.{Fed}
 use Rattle.forms.proofs.ByteLaws.{and_left, and_right, pad_front}
 use Rattle.forms.proofs.ItemTheorems.{read_back, item_framed}
@@ -58,8 +58,8 @@ whole_call : (n p u k : ℕ) (c s : List ℕ) → after_call n p c (whole_fed u 
 unfolding read_item
 whole_call n p u k c s = go (is_item (item_of s) s)
   where
-    read : Bool → ReadItem
-    read b = cond b (R.Item (item_of s) (rest_at (item_of s).body)) (R.Refused 1)
+    read : Bool → Result (Item × ℕ) Refusal
+    read b = cond b (Ok (item_of s, rest_at (item_of s).body)) (Err MalformedItem)
 
     go : (b : Bool) → after_call n p c (whole_fed_as (read b) u s) ≡ and_then (placed (whole_fed_as (read b) k s) (p + u)) (offered n new_feeder (p + u) (drop u c))
     go true = refl
@@ -164,9 +164,9 @@ pub uses : (f : Feeder) (c : List ℕ) → is_answer (feed_of f c).completed ≡
 unfolding feed_of
 uses f c = go (take_of f c) (takes f c)
   where
-    whole_used : (r : ReadItem) (n : ℕ) (s : List ℕ) → (whole_fed_as r n s).used ≡ n
-    whole_used (R.Item i a) n s = refl
-    whole_used (R.Refused m) n s = refl
+    whole_used : (r : Result (Item × ℕ) Refusal) (n : ℕ) (s : List ℕ) → (whole_fed_as r n s).used ≡ n
+    whole_used (Ok i) n s = refl
+    whole_used (Err m) n s = refl
 
     go : (t : Taken) → Takes f c t → is_answer (fed_as t f c).completed ≡ true → (1 ≤ (fed_as t f c).used) × ((fed_as t f c).used ≤ length c)
     go T.Closed k n = absurd (false≢true n)
@@ -223,7 +223,7 @@ abbrev pub handed_out : ℕ → List Sent → List Placed
 handed_out q [] = []
 handed_out q (x ∷ xs) =
     let b = item_bytes x.item x.rest in
-    record { completed = C.Item x.item (rest_at x.item.body); bytes = gathered b; place = q + length b } ∷ handed_out (q + length b) xs
+    record { completed = Ok (Some (record { item = x.item; at = rest_at x.item.body; bytes = gathered b })); place = q + length b } ∷ handed_out (q + length b) xs
 
 sent_run : (n q : ℕ) (xs : List Sent) → length (sent_bytes xs) < n → all_sent_in_range xs ≡ true → run_from n q (sent_bytes xs) ≡ record { answers = handed_out q xs; left = new_feeder }
 unfolding run_from framing_of
@@ -240,7 +240,7 @@ sent_run (suc n) q (x ∷ xs) l a =
     let z = length-append b w in
     let k = told b (F.Whole (length b)) e in
     rw (more b w (F.Whole (length b)) e refl, take-append_seam b w, drop-append_seam b w, back)
-    (ap (and_then (placed (whole_fed_as (R.Item i (rest_at i.body)) (length b) b) (q + length b))) (sent_run n (q + length b) xs (omega arith) (and_right (sent_in_range x) (all_sent_in_range xs) a)))
+    (ap (and_then (placed (whole_fed_as (Ok (i, rest_at i.body)) (length b) b) (q + length b))) (sent_run n (q + length b) xs (omega arith) (and_right (sent_in_range x) (all_sent_in_range xs) a)))
 
 pub in_order : (f : Feeder) (xs : List Sent) (cs : List (List ℕ)) → all_sent_in_range xs ≡ true → joined cs ≡ sent_bytes xs → chunks_fed (reset_of f).feeder 0 cs ≡ record { answers = handed_out 0 xs; left = new_feeder }
 in_order f xs cs a e = as_run f cs ∙ ap run_of e ∙ sent_run (suc (length (sent_bytes xs))) 0 xs (omega arith) a

@@ -8,10 +8,11 @@ use lib.ListN.{length, get_or, take, drop, length-append, length-drop}
 use lib.Seq.{drop-drop, get_or-drop}
 use lib.Dec.{leb, eqb, lit≤}
 use borrow.Author.Tests.{leb-true, eqb-true, ne_eqb}
+use Rattle.std.specs.Prelude.{Result, Ok, Err}
 use Rattle.forms.specs.Bytes.{to_bytes, from_bytes, leads, same}
 use Rattle.forms.specs.Units.{longest_period, is_period, is_clock_reading}
 use Rattle.forms.specs.Fields.{nature, flag, most_digits, is_digit_count, digit_count, leg_number, entry_count, all_in_range, frame, framed}
-use Rattle.forms.specs.Item.{form_of, field_bytes, rest_in_range, item_bytes, item_in_range, rest_at, rest_of, leg_of, choose, body_from, body_of, item_of, is_item, read_item, head_of, fixed_of}
+use Rattle.forms.specs.Item.{form_of, field_bytes, rest_in_range, item_bytes, item_in_range, rest_at, rest_of, leg_of, setup_of, choose, body_from, body_of, item_of, is_item, read_item, head_of, fixed_of}
 use Rattle.forms.specs.declared.units.Tenths.{Tenths}
 use Rattle.forms.specs.declared.item.Leg.{Leg}
 use Rattle.forms.specs.declared.item.Leg.TheVariants.{One, Two}
@@ -23,7 +24,8 @@ use Rattle.forms.specs.declared.item.Rest.{Rest}
 use Rattle.forms.specs.declared.item.Rest.TheVariants.{Nothing, Digits, Entries}
 use Rattle.forms.specs.declared.item.Fixed.{Fixed}
 use Rattle.forms.specs.declared.item.Item.{Item}
-use Rattle.forms.specs.declared.item.ReadItem.TheVariants as R
+use Rattle.forms.specs.declared.refusal.Refusal.{Refusal}
+use Rattle.forms.specs.declared.refusal.Refusal.TheVariants.{MalformedItem}
 use Rattle.forms.proofs.ByteLaws.{number_back, pad_front, picked, and_left, and_right, leads_both, leads_next, same_rest, same_true, framed_same, own_bytes}
 
 -- how many bytes follow the fields
@@ -62,14 +64,14 @@ numbered : (n c : ℕ) → ((nature n).in_range && ((digit_count c).in_range && 
 numbered n c h = leb-true c most_digits (and_right (leb 1 c) _ (and_left (is_digit_count c) true (and_right (nature n).in_range _ h)))
 
 -- each kind of Setup has its number
-setup_back : (b : Bcsm) (n s : ℕ) (f : Bool) (c : ℕ) (t : List ℕ) → let x = B.Setup b n s f c in body_of (form_of x).kind (field_bytes x ++ t) ≡ x
+setup_back : (b : Bcsm) (n s : ℕ) (f : Bool) (c : ℕ) (t : List ℕ) → let x = B.Setup (setup_of b n s f c) in body_of (form_of x).kind (field_bytes x ++ t) ≡ x
 unfolding body_of body_from
-setup_back Originating n s f c t = ap (λ x. B.Setup Originating n s x c) (flag_back f)
-setup_back Terminating n s f c t = ap (λ x. B.Setup Terminating n s x c) (flag_back f)
+setup_back Originating n s f c t = ap (λ x. B.Setup (setup_of Originating n s x c)) (flag_back f)
+setup_back Terminating n s f c t = ap (λ x. B.Setup (setup_of Terminating n s x c)) (flag_back f)
 
 pub formed : (b : Body) → Formed b
 unfolding body_of body_from
-formed (B.Setup b n s f c) = record { short = lit≤ tt; bounded = λ h. omega (arith, numbered n c h); back = λ t h. setup_back b n s f c t }
+formed (B.Setup s) = record { short = lit≤ tt; bounded = λ h. omega (arith, numbered s.nature s.count h); back = λ t h. setup_back s.bcsm s.nature s.service s.forwarded s.count t }
 formed (B.RouteFailure c) = alone (B.RouteFailure c) (lit≤ tt) (λ t h. refl)
 formed (B.Busy c) = alone (B.Busy c) (lit≤ tt) (λ t h. refl)
 formed B.NoAnswer = alone B.NoAnswer (lit≤ tt) (λ t h. refl)
@@ -87,7 +89,7 @@ formed (B.ApplyCharging l p) = alone (B.ApplyCharging l p) (lit≤ tt) (λ t h. 
 formed B.ActivityTest = alone B.ActivityTest (lit≤ tt) (λ t h. refl)
 formed B.Abort = alone B.Abort (lit≤ tt) (λ t h. refl)
 
--- a number that is the kind of none of the bodies, as the last arm of a `match` says it, chooses none of them
+-- Cited by no proof any more; docs/PORT.md names it. A number that is the kind of none of the bodies, as the last arm of a `match` says it, chooses none of them.
 abbrev NoneOf : ℕ → Type 0 → List Body → Type 0
 NoneOf n before [] = before
 NoneOf n before (b ∷ bs) = NoneOf n (before × (n ≡ (form_of b).kind → ⊥)) bs
@@ -173,14 +175,14 @@ module _ (i : Item) (f : Fixed) (e : f ≡ fixed_of (form_of i.body)) where
     is_item_lem = rw (← head_same, e, fields_back i.body, form_same (form_of i.body).kind i.call i.time.0 (field_bytes i.body) s)
 
 -- fewer than 14 bytes are no item
-pub read_short : (s : List ℕ) → length s < 14 → read_item s ≡ R.Refused 1
+pub read_short : (s : List ℕ) → length s < 14 → read_item s ≡ Err MalformedItem
 unfolding read_item is_item rest_at
 read_short s h =
     let i = item_of s in
     let t = rest_of i.body s in
     go (same (item_bytes i t) s) (λ e. let l : 14 + length (field_bytes i.body) + length t ≡ length s = sym (item_length i t) ∙ ap length (same_true (item_bytes i t) s e) in omega arith)
   where
-    go : (b : Bool) → (b ≡ true → ⊥) → cond (b && item_in_range (item_of s) (rest_of (item_of s).body s)) (R.Item (item_of s) (rest_at (item_of s).body)) (R.Refused 1) ≡ R.Refused 1
+    go : (b : Bool) → (b ≡ true → ⊥) → cond {A = Result (Item × ℕ) Refusal} (b && item_in_range (item_of s) (rest_of (item_of s).body s)) (Ok (item_of s, rest_at (item_of s).body)) (Err MalformedItem) ≡ Err MalformedItem
     go true h = absurd (h refl)
     go false h = refl
 
@@ -190,19 +192,20 @@ pub record Reads (s : List ℕ) (i : Item) (n : ℕ) : Type 0 where
   pub in_range : item_in_range i (drop n s) ≡ true
   pub place : rest_at i.body ≡ n
 
-pub reads : (s : List ℕ) (i : Item) (n : ℕ) → read_item s ≡ R.Item i n → Reads s i n
+pub reads : (s : List ℕ) (i : Item) (n : ℕ) → read_item s ≡ Ok (i, n) → Reads s i n
 unfolding read_item is_item
 reads s i n h =
     let j = item_of s in
     let t = rest_of j.body s in
-    let p = picked (is_item j s) (R.Item j (rest_at j.body)) (R.Refused 1) (R.Item i n) h (λ (e : R.Refused 1 ≡ R.Item i n). let z : ◌≡◌ {A = ℕ} 0 1 = cc in omega arith) in
-    let q : j ≡ i = cc in
-    let m : rest_at j.body ≡ n = cc in
+    let p = picked (is_item j s) (Ok (j, rest_at j.body)) (Err MalformedItem) (Ok (i, n)) h (λ (e : Err MalformedItem ≡ Ok (i, n)). let z : ◌≡◌ {A = ℕ} 0 1 = cc in omega arith) in
+    let k : ◌≡◌ {A = Item × ℕ} (j, rest_at j.body) (i, n) = cc in
+    let q : j ≡ i = ap (λ (x : Item × ℕ). x.0) k in
+    let m : rest_at j.body ≡ n = ap (λ (x : Item × ℕ). x.1) k in
     let w : item_bytes j t ≡ s = same_true (item_bytes j t) s (and_left (same (item_bytes j t) s) (item_in_range j t) p.0) in
     let r : item_in_range j t ≡ true = and_right (same (item_bytes j t) s) (item_in_range j t) p.0 in
     record { written = rw (m, q) at w; in_range = rw (m, q) at r; place = rw q at m }
 
 -- they begin within its first 19 bytes
-pub place_small : (s : List ℕ) (i : Item) (n : ℕ) → read_item s ≡ R.Item i n → n ≤ 19
+pub place_small : (s : List ℕ) (i : Item) (n : ℕ) → read_item s ≡ Ok (i, n) → n ≤ 19
 unfolding rest_at
 place_small s i n h = let p : 14 + length (field_bytes i.body) ≡ n = (reads s i n h).place in omega (arith, (formed i.body).short)

@@ -8,6 +8,7 @@ use borrow.Author.Tests.{ltb-true, le-leb}
 use lib.ListN.{length, take, drop}
 use lib.Seq.{drop_at, take-append_seam}
 use lib.Dec.{leb, ltb}
+use Rattle.std.specs.Prelude.{Ok, Err}
 use Rattle.forms.specs.Bytes.{to_bytes, from_bytes}
 use Rattle.forms.specs.Units.{clock_end}
 use Rattle.forms.specs.Fields.{all_in_range}
@@ -17,8 +18,7 @@ use Rattle.forms.specs.Write.{writable, written, after}
 use Rattle.forms.specs.declared.framing.Framing.TheVariants as F
 use Rattle.forms.specs.declared.item.Item.{Item}
 use Rattle.forms.specs.declared.item.Entry.{Entry}
-use Rattle.forms.specs.declared.item.ReadItem.TheVariants as R
-use Rattle.forms.specs.declared.write.Written.TheVariants as W
+use Rattle.forms.specs.declared.refusal.Refusal.TheVariants.{MalformedItem}
 use Rattle.forms.proofs.ByteLaws.{picked, and_left, and_right, number_back, same_self, framed_whole}
 use Rattle.forms.proofs.ItemLaws.{formed, item_size, item_parts, item_length, reads}
 
@@ -43,29 +43,29 @@ module _ (i : Item) (t : List ℕ) (right : item_in_range i t ≡ true) (call : 
   rest_back = rw (item_parts i t) (drop_at (head_of _ _ _ _ ++ field_bytes i.body) t (14 + length (field_bytes i.body)) (omega arith))
 
   -- reading an item's bytes gives the item and what follows it
-  pub read_back : (read_item (item_bytes i t) ≡ R.Item i (rest_at i.body)) × (rest_of i.body (item_bytes i t) ≡ t)
+  pub read_back : (read_item (item_bytes i t) ≡ Ok (i, rest_at i.body)) × (rest_of i.body (item_bytes i t) ≡ t)
   unfolding read_item is_item
   read_back = (rw (item_back, rest_back, same_self (item_bytes i t), right), rest_back)
 
 -- what was written into a buffer reads back the same. (A call is below 256 ^ 4 in the code: it is a u32.)
-pub written_read : (i : Item) (t d : List ℕ) (n : ℕ) → i.call < 256 ^ 4 → written i t d ≡ W.Length n
-    → (read_item (take n (after i t d)) ≡ R.Item i (rest_at i.body)) × (rest_of i.body (take n (after i t d)) ≡ t)
+pub written_read : (i : Item) (t d : List ℕ) (n : ℕ) → i.call < 256 ^ 4 → written i t d ≡ Ok n
+    → (read_item (take n (after i t d)) ≡ Ok (i, rest_at i.body)) × (rest_of i.body (take n (after i t d)) ≡ t)
 unfolding written after writable
 written_read i t d n call h =
     let b = item_bytes i t in
-    let p = picked (item_in_range i t && leb (length b) (length d)) (W.Length (length b)) (W.Refused 1) (W.Length n) h (λ (e : W.Refused 1 ≡ W.Length n). let z : ◌≡◌ {A = ℕ} 0 1 = cc in omega arith) in
+    let p = picked (item_in_range i t && leb (length b) (length d)) (Ok (length b)) (Err MalformedItem) (Ok n) h (λ (e : Err MalformedItem ≡ Ok n). let z : ◌≡◌ {A = ℕ} 0 1 = cc in omega arith) in
     let l : length b ≡ n = cc in
     rw (p.0, ← l, take-append_seam b (drop (length b) d)) (read_back i t (and_left (item_in_range i t) (leb (length b) (length d)) p.0) call)
 
 -- ---- one written form
 
-module _ (s : List ℕ) (i : Item) (n : ℕ) (h : read_item s ≡ R.Item i n) where
+module _ (s : List ℕ) (i : Item) (n : ℕ) (h : read_item s ≡ Ok (i, n)) where
   -- bytes that read as an item are its written form
   pub one_form : item_bytes i (drop n s) ≡ s
   one_form = (reads s i n h).written
 
   -- writing what was read gives the bytes back, in any buffer with room
-  pub read_written : (d : List ℕ) → length s ≤ length d → (written i (drop n s) d ≡ W.Length (length s)) × (after i (drop n s) d ≡ s ++ drop (length s) d)
+  pub read_written : (d : List ℕ) → length s ≤ length d → (written i (drop n s) d ≡ Ok (length s)) × (after i (drop n s) d ≡ s ++ drop (length s) d)
   unfolding written after writable
   read_written d l = (rw ((reads s i n h).in_range, one_form, le-leb _ _ l), rw ((reads s i n h).in_range, one_form, le-leb _ _ l))
 
@@ -83,7 +83,7 @@ module _ (s : List ℕ) (i : Item) (n : ℕ) (h : read_item s ≡ R.Item i n) wh
   item_framed = framed_whole 14 65 {b = drop 3 (item_bytes i (drop n s))} one_form item_bounds.0 item_bounds.1 (omega arith)
 
 -- two byte runs that read as one item, with the same digits or entries, are the same bytes
-pub one_run : (s r : List ℕ) (i : Item) (m n : ℕ) → read_item s ≡ R.Item i m → read_item r ≡ R.Item i n → drop m s ≡ drop n r → s ≡ r
+pub one_run : (s r : List ℕ) (i : Item) (m n : ℕ) → read_item s ≡ Ok (i, m) → read_item r ≡ Ok (i, n) → drop m s ≡ drop n r → s ≡ r
 one_run s r i m n hs hr e = sym (one_form s i m hs) ∙ ap (item_bytes i) e ∙ one_form r i n hr
 
 -- ---- entries

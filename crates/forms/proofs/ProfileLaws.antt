@@ -2,19 +2,21 @@
 use Prim.Native.Nat.{ℕ, zero, suc, ◌+◌, ◌-◌, ◌≤◌, ◌<◌}
 use mathlib.Core.Path.{◌≡◌, refl, sym, ap, ◌∙◌}
 use mathlib.Core.List.{List, [], ◌∷◌, ◌++◌, append_assoc}
-use mathlib.Core.Bool.{Bool, false, ◌&&◌, and-true, and-false, and_assoc}
+use mathlib.Core.Bool.{Bool, true, false, ◌&&◌, cond, and-true, and-false, and_assoc}
 use mathlib.Core.Logic.{⊎_elim}
-use native.Mathlib.Numerals.{add-one, sub-one}
+use native.Mathlib.Numerals.{add-one}
 use native.Mathlib.Nat.{add-zero, le_of_lt}
 use native.Mathlib.Omega.{arith}
 use borrow.Author.Tests.{eq-eqb, ne_eqb, lt-leb}
 use lib.ListN.{length, get_or, take, drop, drop_of_length-le}
 use lib.Seq.{drop-cons, drop-drop, get_or-drop, length-take-le, take_all}
 use lib.Dec.{leb, eqb, leb-zero}
+use Rattle.std.specs.Prelude.{Some, None, Err}
+use Rattle.forms.specs.declared.refusal.Refusal.TheVariants.{MalformedProfile}
 use Rattle.forms.specs.Bytes.{part, all, leads, same}
 use Rattle.forms.specs.Units.{is_default_timer}
 use Rattle.forms.specs.Fields.{Field, is_digit_count, bytes_in, all_in_range, frame}
-use Rattle.forms.specs.Profile.{handling_number, criterion_number, number_fields, list_fields, fields_of, profile_bytes, sense_in_range, profile_in_range, handling_of, criterion_of, list_at, list_end, number_at, numbers_at, numbers_end, view_at, view_of, profile_of}
+use Rattle.forms.specs.Profile.{Number, handling_number, criterion_number, number_fields, list_fields, fields_of, profile_bytes, sense_in_range, profile_in_range, handling_of, criterion_of, list_at, list_end, number_at, numbers_at, numbers_end, view_at, view_of, profile_of, is_profile, read_profile, end_in_range}
 use Rattle.forms.specs.declared.profile.ProfileView.{ProfileView}
 use Rattle.forms.proofs.ByteLaws.{below_or_past, framed_same}
 
@@ -38,6 +40,7 @@ counts (suc n) s q = ap suc (counts n s (list_end s (q + 1)))
 pub head_at : (s : List ℕ) (q : ℕ) → get_or (drop q s) 0 0 ≡ get_or s q 0
 head_at s q = get_or-drop q s 0 0 ∙ ap (λ (n : ℕ). get_or s n 0) (add-zero q)
 
+-- Cited by no proof any more; docs/PORT.md names it.
 pub list_from : (s : List ℕ) (q : ℕ) → part (drop q s) 1 (get_or (drop q s) 0 0) ≡ list_at s q
 list_from s q = rw (head_at s q, drop-drop 1 q s)
 
@@ -144,30 +147,52 @@ module _ (s : List ℕ) (p : ProfileView) (e : p ≡ view_of s) where
   unfolding profile_in_range fields_of profile_of view_at
   profile_in_range_lem = rw (e, in_range_both (number_fields (numbers_at n s 7)) (list_fields (profile_of s)), counts n s 7) (simp (leb-zero, and_assoc, and-true))
 
--- ---- the loops over the numbers: one more, and none left
+  -- so where the stored numbers are in range, the code has the rest to test
+  pub in_range_where_numbers : all_in_range (number_fields (numbers_at n s 7)) ≡ true → profile_in_range (profile_of s)
+      ≡ ((is_default_timer p.timer && leb n 10 && leb (length (list_at s p.lengths)) 3 && all is_digit_count (list_at s p.lengths) && leb (length (list_at s p.services)) 5)
+      && sense_in_range p.sense (n + length (list_at s p.lengths)))
+  in_range_where_numbers r = rw (profile_in_range_lem, r) (simp and-true)
 
-module _ (s : List ℕ) (q : ℕ) where
-  pub numbers_next : (n : ℕ) → 0 < n → numbers_at n s q ≡ number_at s q ∷ numbers_at (n - 1) s (list_end s (q + 1))
+-- ---- the loops over the n numbers, i of which are done: one more, and none left
+
+module _ (s : List ℕ) (q n i : ℕ) where
+  left_one : i < n → n - i ≡ suc (n - (i + 1))
+  left_one h = omega arith
+
+  left_none : n ≤ i → n - i ≡ 0
+  left_none h = omega arith
+
+  pub numbers_next : i < n → numbers_at (n - i) s q ≡ number_at s q ∷ numbers_at (n - (i + 1)) s (list_end s (q + 1))
   unfolding numbers_at
-  numbers_next zero h = absurd (omega arith)
-  numbers_next (suc n) h = rw sub-one
+  numbers_next h = rw (left_one h)
 
-  pub end_next : (n : ℕ) → 0 < n → numbers_end n s q ≡ numbers_end (n - 1) s (list_end s (q + 1))
-  unfolding numbers_end
-  end_next zero h = absurd (omega arith)
-  end_next (suc n) h = rw sub-one
-
-  pub numbers_none : (n : ℕ) → n ≤ 0 → numbers_at n s q ≡ []
+  pub numbers_none : n ≤ i → numbers_at (n - i) s q ≡ []
   unfolding numbers_at
-  numbers_none zero h = refl
-  numbers_none (suc n) h = absurd (omega arith)
+  numbers_none h = rw (left_none h)
 
-  pub end_none : (n : ℕ) → n ≤ 0 → numbers_end n s q ≡ q
+  one_more : (m : ℕ) → all_in_range (number_fields (numbers_at (suc m) s q)) ≡ (all_in_range (number_fields (number_at s q ∷ [])) && all_in_range (number_fields (numbers_at m s (list_end s (q + 1)))))
+  unfolding numbers_at
+  one_more m = simp (and_assoc, and-true)
+
+  pub end_next : i < n → all_in_range (number_fields (number_at s q ∷ [])) ≡ true → end_in_range (n - (i + 1)) s (list_end s (q + 1)) ≡ end_in_range (n - i) s q
   unfolding numbers_end
-  end_none zero h = refl
-  end_none (suc n) h = absurd (omega arith)
+  end_next h e = rw (left_one h, one_more (n - (i + 1)), e)
 
-  -- what was found so far, and one more
-  pub in_range_next : (ok : Bool) (n : ℕ) → 0 < n
-      → ((ok && all_in_range (number_fields (number_at s q ∷ []))) && all_in_range (number_fields (numbers_at (n - 1) s (list_end s (q + 1))))) ≡ (ok && all_in_range (number_fields (numbers_at n s q)))
-  in_range_next ok n h = rw (numbers_next n h) (simp (and_assoc, and-true))
+  pub end_stop : i < n → all_in_range (number_fields (number_at s q ∷ [])) ≡ false → end_in_range (n - i) s q ≡ None
+  end_stop h e = rw (left_one h, one_more (n - (i + 1)), e)
+
+  pub end_none : n ≤ i → end_in_range (n - i) s q ≡ Some q
+  unfolding numbers_at numbers_end
+  end_none h = rw (left_none h)
+
+-- where a stored number is out of range, the bytes are no profile
+pub no_end : (s : List ℕ) → end_in_range (get_or s 6 0) s 7 ≡ None → read_profile s ≡ Err MalformedProfile
+unfolding read_profile is_profile profile_in_range fields_of profile_of
+no_end s h = go (all_in_range (number_fields ns)) refl h
+  where
+    ns : List Number
+    ns = numbers_at (get_or s 6 0) s 7
+
+    go : (b : Bool) → all_in_range (number_fields ns) ≡ b → cond b (Some (numbers_end (get_or s 6 0) s 7)) None ≡ None → read_profile s ≡ Err MalformedProfile
+    go true e h = absurd cc
+    go false e h = rw (in_range_both (number_fields ns) (list_fields (profile_of s)), e) (simp and-false)

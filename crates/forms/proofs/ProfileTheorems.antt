@@ -8,6 +8,7 @@ use borrow.Author.Tests.{leb-true}
 use lib.ListN.{length, get_or, drop, length-append}
 use lib.Seq.{drop-drop, take-append_seam, drop-append_seam}
 use lib.Dec.{leb, eqb}
+use Rattle.std.specs.Prelude.{Ok, Err}
 use Rattle.forms.specs.Bytes.{from_bytes, within, all, same}
 use Rattle.forms.specs.Units.{is_default_timer}
 use Rattle.forms.specs.Fields.{nature, most_digits, is_digit_count, is_digit, bytes_in, all_in_range}
@@ -19,7 +20,7 @@ use Rattle.forms.specs.declared.profile.Handling.TheVariants as H
 use Rattle.forms.specs.declared.profile.Criterion.{Criterion}
 use Rattle.forms.specs.declared.profile.Criterion.TheVariants as C
 use Rattle.forms.specs.declared.profile.ProfileView.{ProfileView}
-use Rattle.forms.specs.declared.profile.ReadProfile.TheVariants as R
+use Rattle.forms.specs.declared.refusal.Refusal.TheVariants.{MalformedProfile}
 use Rattle.forms.proofs.ByteLaws.{picked, and_left, and_right, same_self, same_true, framed_whole}
 use Rattle.forms.proofs.ProfileLaws.{bytes_both, in_range_both, head_at}
 
@@ -75,19 +76,19 @@ module _ (p : Profile) where
       rw (n.0, l.0, r.0, c.0, handling_back p.handling, criterion_back p.sense, criterion_back p.forwarding)
 
   -- reading what was written gives a view of the profile
-  pub read_back : profile_in_range p ≡ true → (read_profile (profile_bytes p) ≡ R.Profile (view_of (profile_bytes p))) × (profile_of (profile_bytes p) ≡ p)
+  pub read_back : profile_in_range p ≡ true → (read_profile (profile_bytes p) ≡ Ok (view_of (profile_bytes p))) × (profile_of (profile_bytes p) ≡ p)
   unfolding read_profile is_profile
   read_back right = (rw (value_back, same_self (profile_bytes p), right), value_back)
 
 -- ---- one written form
 
-module _ (s : List ℕ) (v : ProfileView) (h : read_profile s ≡ R.Profile v) where
+module _ (s : List ℕ) (v : ProfileView) (h : read_profile s ≡ Ok v) where
   -- the bytes are the profile's written form, it is in range, and the view is its own
   pub reads : ((profile_bytes (profile_of s) ≡ s) × (profile_in_range (profile_of s) ≡ true)) × (view_of s ≡ v)
   unfolding read_profile is_profile
   reads =
       let p = profile_of s in
-      let r = picked (is_profile p s) (R.Profile (view_of s)) (R.Refused 2) (R.Profile v) h (λ (e : R.Refused 2 ≡ R.Profile v). let z : ◌≡◌ {A = ℕ} 0 1 = cc in omega arith) in
+      let r = picked (is_profile p s) (Ok (view_of s)) (Err MalformedProfile) (Ok v) h (λ (e : Err MalformedProfile ≡ Ok v). let z : ◌≡◌ {A = ℕ} 0 1 = cc in omega arith) in
       ((same_true (profile_bytes p) s (and_left (same (profile_bytes p) s) (profile_in_range p) r.0), and_right (same (profile_bytes p) s) (profile_in_range p) r.0), cc)
 
   -- bytes that read as a profile are its written form
@@ -95,7 +96,7 @@ module _ (s : List ℕ) (v : ProfileView) (h : read_profile s ≡ R.Profile v) w
   one_form = reads.0.0
 
 -- two byte runs that read as one profile are the same bytes
-pub one_run : (s r : List ℕ) (v w : ProfileView) → read_profile s ≡ R.Profile v → read_profile r ≡ R.Profile w → profile_of s ≡ profile_of r → s ≡ r
+pub one_run : (s r : List ℕ) (v w : ProfileView) → read_profile s ≡ Ok v → read_profile r ≡ Ok w → profile_of s ≡ profile_of r → s ≡ r
 one_run s r v w hs hr e = sym (one_form s v hs) ∙ ap profile_bytes e ∙ one_form r w hr
 
 -- ---- sizes
@@ -126,10 +127,10 @@ size p h =
     rw (bytes_both ns (list_fields p), length-append (bytes_in ns) (bytes_in (list_fields p)), length-append p.lengths (v ∷ (p.services ++ (criterion_number p.forwarding ∷ []))), length-append p.services (criterion_number p.forwarding ∷ [])) (omega arith, omega arith)
 
 -- a profile is 10 to 188 bytes long
-pub profile_bounds : (s : List ℕ) (v : ProfileView) → read_profile s ≡ R.Profile v → (10 ≤ length s) × (length s ≤ 188)
+pub profile_bounds : (s : List ℕ) (v : ProfileView) → read_profile s ≡ Ok v → (10 ≤ length s) × (length s ≤ 188)
 profile_bounds s v h = rw (one_form s v h) at (size (profile_of s) (reads s v h).0.1)
 
 -- and its length field says so: a run that begins with it is found to
-pub profile_framed : (s : List ℕ) (v : ProfileView) → read_profile s ≡ R.Profile v → profile_framing (length s) (from_bytes 2 s) ≡ F.Whole (length s)
+pub profile_framed : (s : List ℕ) (v : ProfileView) → read_profile s ≡ Ok v → profile_framing (length s) (from_bytes 2 s) ≡ F.Whole (length s)
 unfolding profile_bytes
 profile_framed s v h = framed_whole 10 188 {b = bytes_in (fields_of (profile_of s))} (one_form s v h) (profile_bounds s v h).0 (profile_bounds s v h).1 (omega arith)

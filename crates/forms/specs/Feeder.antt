@@ -1,18 +1,19 @@
 -- Document 02, T-02: items that arrive in bits. What a feeder answers goes by the bytes that it holds and those of the chunk, one behind the other.
-use Rattle.std.specs.Prelude.{ℕ, zero, suc, ◌+◌, ◌-◌, List, [], ◌∷◌, ◌++◌, Bool, true, false, ◌||◌, not, cond, length, take, drop, eqb}
+use Rattle.std.specs.Prelude.{ℕ, zero, suc, ◌+◌, ◌-◌, List, [], ◌∷◌, ◌++◌, Bool, true, false, ◌||◌, not, cond, length, take, drop, eqb, Option, Some, None, Result, Ok, Err}
 use Rattle.forms.specs.Bytes.{from_bytes, pad}
 use Rattle.forms.specs.Framing.{is_short, item_framing}
 use Rattle.forms.specs.Item.{read_item}
 use Rattle.forms.specs.declared.framing.Framing.{Framing}
 use Rattle.forms.specs.declared.framing.Framing.TheVariants as F
-use Rattle.forms.specs.declared.item.ReadItem.{ReadItem}
-use Rattle.forms.specs.declared.item.ReadItem.TheVariants as R
+use Rattle.forms.specs.Refusal.{number_of}
+use Rattle.forms.specs.declared.refusal.Refusal.{Refusal}
+use Rattle.forms.specs.declared.refusal.Refusal.TheVariants.{MalformedItem, FeederClosed}
+use Rattle.forms.specs.declared.item.Item.{Item}
 use Rattle.forms.specs.declared.feeder.Gathered.{Gathered}
 use Rattle.forms.specs.declared.feeder.Feeder.{Feeder}
 use Rattle.forms.specs.declared.feeder.Taken.{Taken}
 use Rattle.forms.specs.declared.feeder.Taken.TheVariants as T
-use Rattle.forms.specs.declared.feeder.Completed.{Completed}
-use Rattle.forms.specs.declared.feeder.Completed.TheVariants as C
+use Rattle.forms.specs.declared.feeder.Handed.{Handed}
 use Rattle.forms.specs.declared.feeder.Fed.{Fed}
 use Rattle.forms.specs.declared.feeder.Dropped.{Dropped}
 
@@ -37,6 +38,10 @@ stopped_feeder = record { held = gathered []; stopped = true }
 
 -- ---- a call
 
+-- what is completed: an item, with the place of its digits or entries and its bytes, or none yet; or refusal 1 or 15
+abbrev pub Completed : Type 0
+Completed = Result (Option Handed) Refusal
+
 -- what a run of bytes begins with: an item not whole yet, a length field outside 14..65, or a whole item
 abbrev pub begins : List ℕ → Framing
 begins s = item_framing (length s) (from_bytes 2 s)
@@ -60,20 +65,21 @@ take_of f c = let h = bytes_of f.held in cond (is_closed f) T.Closed (taken_as (
 
 -- the next feeder, how many bytes of the chunk were used, and what was completed, where that is no item
 abbrev pub without_item : Feeder → ℕ → Completed → Fed
-without_item f n c = record { feeder = f; used = n; completed = c; bytes = gathered [] }
+without_item f n c = record { feeder = f; used = n; completed = c }
 
 -- a whole item of the bytes s: handed out with its bytes, read as the reader reads them; "a malformed one is answered 1 instead and feeding goes on"
-abbrev pub whole_fed_as : ReadItem → ℕ → List ℕ → Fed
-whole_fed_as (R.Item i a) n s = record { feeder = new_feeder; used = n; completed = C.Item i a; bytes = gathered s }
-whole_fed_as (R.Refused m) n s = without_item new_feeder n (C.Refused m)
+abbrev pub whole_fed_as : Result (Item × ℕ) Refusal → ℕ → List ℕ → Fed
+whole_fed_as (Ok i) n s = record { feeder = new_feeder; used = n; completed = Ok (Some (record { item = i.0; at = i.1; bytes = gathered s })) }
+whole_fed_as (Err r) n s = without_item new_feeder n (Err r)
 
 abbrev pub whole_fed : ℕ → List ℕ → Fed
 whole_fed n s = whole_fed_as (read_item s) n s
 
+-- 15 of a closed feeder; 1 for a length field outside 14..65; else the chunk is held, or completes an item
 abbrev pub fed_as : Taken → Feeder → List ℕ → Fed
-fed_as T.Closed f c = without_item f 0 (C.Refused 15)
-fed_as (T.Bad n) f c = without_item stopped_feeder n (C.Refused 1)
-fed_as T.Unfinished f c = without_item (holding (gathered (bytes_of f.held ++ c))) (length c) C.UsedUp
+fed_as T.Closed f c = without_item f 0 (Err FeederClosed)
+fed_as (T.Bad n) f c = without_item stopped_feeder n (Err MalformedItem)
+fed_as T.Unfinished f c = without_item (holding (gathered (bytes_of f.held ++ c))) (length c) (Ok None)
 fed_as (T.Whole n) f c = whole_fed n (bytes_of f.held ++ take n c)
 
 unfoldable pub feed_of : Feeder → List ℕ → Fed
@@ -89,7 +95,6 @@ reset_of f = record { feeder = new_feeder; count = cond (is_closed f) 0 (length 
 -- an item or an answer 1, and its place: how many bytes of the run are used when it is given
 pub record Placed : Type 0 where
   pub completed : Completed
-  pub bytes : Gathered
   pub place : ℕ
 
 -- the items and the answers 1 in order, and the feeder that is left
@@ -98,7 +103,7 @@ pub record Got : Type 0 where
   pub left : Feeder
 
 abbrev pub placed : Fed → ℕ → List Placed
-placed r p = record { completed = r.completed; bytes = r.bytes; place = p } ∷ []
+placed r p = record { completed = r.completed; place = p } ∷ []
 
 abbrev pub nothing_but : Feeder → Got
 nothing_but f = record { answers = []; left = f }
@@ -108,9 +113,9 @@ abbrev pub and_then : List Placed → Got → Got
 and_then before g = record { answers = before ++ g.answers; left = g.left }
 
 abbrev pub is_answer : Completed → Bool
-is_answer (C.Item i a) = true
-is_answer (C.Refused n) = eqb n 1
-is_answer C.UsedUp = false
+is_answer (Ok (Some i)) = true
+is_answer (Ok None) = false
+is_answer (Err r) = eqb (number_of r) 1
 
 -- a chunk that begins at place p of the run, "its rest offered again" after each answer, in n calls at most
 unfoldable pub offered : ℕ → Feeder → ℕ → List ℕ → Got
@@ -138,10 +143,10 @@ joined (c ∷ cs) = c ++ joined cs
 
 -- ---- the same run by itself, without a feeder: items and answers 1, each from where the last one ended, up to a length field outside 14..65 or an unfinished item
 
--- the run s begins at place p, and `next k` is what follows its first k bytes
+-- the run s begins at place p, and `next k` is what follows its first k bytes; a length field outside 14..65 is answered 1
 abbrev pub run_as : Framing → ℕ → List ℕ → (ℕ → Got) → Got
 run_as F.Short p s next = nothing_but (holding (gathered s))
-run_as F.Bad p s next = and_then (placed (without_item stopped_feeder 2 (C.Refused 1)) (p + 2)) (nothing_but stopped_feeder)
+run_as F.Bad p s next = and_then (placed (without_item stopped_feeder 2 (Err MalformedItem)) (p + 2)) (nothing_but stopped_feeder)
 run_as (F.Whole k) p s next = and_then (placed (whole_fed k (take k s)) (p + k)) (next k)
 
 -- in n turns at most

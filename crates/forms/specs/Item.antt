@@ -1,5 +1,5 @@
 -- Document 01, Forms: items. `form_of` is its table of kinds. Reading has no rules of its own: bytes read as the item whose written form they are.
-use Rattle.std.specs.Prelude.{ℕ, ◌+◌, ◌*◌, List, [], ◌∷◌, ◌++◌, Bool, ◌&&◌, cond, length, get_or, drop, leb, eqb}
+use Rattle.std.specs.Prelude.{ℕ, ◌+◌, ◌*◌, List, [], ◌∷◌, ◌++◌, Bool, ◌&&◌, cond, length, get_or, drop, leb, eqb, Option, Some, None, Result, Ok, Err}
 use Rattle.forms.specs.Bytes.{to_bytes, from_bytes, pad, same}
 use Rattle.forms.specs.Units.{is_clock_reading}
 use Rattle.forms.specs.Fields.{Field, nature, service, forwarded, digit_count, digits, digit, cause, leg, entry_count, period, bytes_in, all_in_range, frame, framed}
@@ -7,6 +7,7 @@ use Rattle.forms.specs.declared.item.Leg.{Leg}
 use Rattle.forms.specs.declared.item.Leg.TheVariants.{One, Two}
 use Rattle.forms.specs.declared.item.Bcsm.{Bcsm}
 use Rattle.forms.specs.declared.item.Bcsm.TheVariants.{Originating, Terminating}
+use Rattle.forms.specs.declared.item.Setup.{Setup}
 use Rattle.forms.specs.declared.item.Body.{Body}
 use Rattle.forms.specs.declared.item.Body.TheVariants as B
 use Rattle.forms.specs.declared.item.Rest.{Rest}
@@ -14,10 +15,8 @@ use Rattle.forms.specs.declared.item.Rest.TheVariants.{Nothing, Digits, Entries}
 use Rattle.forms.specs.declared.item.Fixed.{Fixed}
 use Rattle.forms.specs.declared.item.Item.{Item}
 use Rattle.forms.specs.declared.item.Entry.{Entry}
-use Rattle.forms.specs.declared.item.ReadItem.{ReadItem}
-use Rattle.forms.specs.declared.item.ReadItem.TheVariants as R
-use Rattle.forms.specs.declared.item.ReadEntry.{ReadEntry}
-use Rattle.forms.specs.declared.item.ReadEntry.TheVariants as E
+use Rattle.forms.specs.declared.refusal.Refusal.{Refusal}
+use Rattle.forms.specs.declared.refusal.Refusal.TheVariants.{MalformedItem}
 
 -- ---- the table of kinds. In the standards' words: Period over is the expiry of Tcp, Request report is RequestReportBCSMEvent, Release is ReleaseCall, Moved a change of position
 
@@ -36,7 +35,7 @@ setup_kind Originating = 1
 setup_kind Terminating = 11
 
 abbrev pub form_of : Body → Form
-form_of (B.Setup b n s f c) = form (setup_kind b) (nature n ∷ service s ∷ forwarded f ∷ digit_count c ∷ []) (Digits c)
+form_of (B.Setup s) = form (setup_kind s.bcsm) (nature s.nature ∷ service s.service ∷ forwarded s.forwarded ∷ digit_count s.count ∷ []) (Digits s.count)
 form_of (B.RouteFailure c) = form 2 (cause c ∷ []) Nothing
 form_of (B.Busy c) = form 3 (cause c ∷ []) Nothing
 form_of B.NoAnswer = form 4 [] Nothing
@@ -81,6 +80,9 @@ rest_at b = 14 + length (field_bytes b)
 abbrev pub leg_of : Bool → Leg
 leg_of two = cond two Two One
 
+abbrev pub setup_of : Bcsm → ℕ → ℕ → Bool → ℕ → Setup
+setup_of bcsm nature service forwarded count = record { bcsm = bcsm; nature = nature; service = service; forwarded = forwarded; count = count }
+
 -- the first body of the list that is of the kind n. Where none is, an Abort: its form has the kind 26, so the bytes are not it
 abbrev pub choose : ℕ → List Body → Body
 choose n [] = B.Abort
@@ -89,9 +91,9 @@ choose n (b ∷ bs) = cond (eqb n (form_of b).kind) b (choose n bs)
 -- the bodies whose values the bytes are, one of each kind but Abort: b0 to b3 are the first bytes, l the leg that b0 stands for, p the number from b1 on
 abbrev pub bodies_from : ℕ → ℕ → ℕ → ℕ → Leg → ℕ → List Body
 bodies_from b0 b1 b2 b3 l p =
-    B.Setup Originating b0 b1 (eqb b2 1) b3
+    B.Setup (setup_of Originating b0 b1 (eqb b2 1) b3)
     ∷ B.RouteFailure b0 ∷ B.Busy b0 ∷ B.NoAnswer ∷ B.Seized ∷ B.Answer ∷ B.MidCall b0 ∷ B.Moved ∷ B.Clear l b1 ∷ B.PeriodOver l
-    ∷ B.Setup Terminating b0 b1 (eqb b2 1) b3
+    ∷ B.Setup (setup_of Terminating b0 b1 (eqb b2 1) b3)
     ∷ B.RequestReport b0 ∷ B.Continue ∷ B.Connect b0 b1 ∷ B.Release ∷ B.ApplyCharging l (record { 0 = p }) ∷ B.ActivityTest
     ∷ []
 
@@ -117,15 +119,15 @@ unfoldable pub is_item : Item → List ℕ → Bool
 is_item i s = same (item_bytes i (rest_of i.body s)) s && item_in_range i (rest_of i.body s)
 
 -- what the bytes say: the item that is written so, and the place where its digits or entries begin; else refusal 1
-unfoldable pub read_item : List ℕ → ReadItem
-read_item s = let i = item_of s in cond (is_item i s) (R.Item i (rest_at i.body)) (R.Refused 1)
+unfoldable pub read_item : List ℕ → Result (Item × ℕ) Refusal
+read_item s = let i = item_of s in cond (is_item i s) (Ok (i, rest_at i.body)) (Err MalformedItem)
 
 -- the same for the bytes from place a on
-abbrev pub placed : ℕ → ReadItem → ReadItem
-placed a (R.Item i n) = R.Item i (a + n)
-placed a (R.Refused n) = R.Refused n
+abbrev pub placed : ℕ → Result (Item × ℕ) Refusal → Result (Item × ℕ) Refusal
+placed a (Ok (i, n)) = Ok (i, a + n)
+placed a (Err r) = Err r
 
-unfoldable pub read_item_at : List ℕ → ℕ → ReadItem
+unfoldable pub read_item_at : List ℕ → ℕ → Result (Item × ℕ) Refusal
 read_item_at s a = placed a (read_item (drop a s))
 
 -- ---- the entries of a Request report (detection point, legID, monitor mode, application timer): "point, leg, mode, timer (2 bytes)", written and read
@@ -136,9 +138,9 @@ entry_bytes e = e.point ∷ e.leg ∷ e.mode ∷ to_bytes 2 e.timer.0
 unfoldable pub entry_of : List ℕ → Entry
 entry_of e = record { point = get_or e 0 0; leg = get_or e 1 0; mode = get_or e 2 0; timer = record { 0 = from_bytes 2 (drop 3 e) } }
 
--- the entry at place a, and the place after it; the end where no whole entry is left
-unfoldable pub read_entry : List ℕ → ℕ → ReadEntry
-read_entry s a = cond (leb 5 (length (drop a s))) (E.Entry (entry_of (drop a s)) (a + 5)) E.End
+-- the entry at place a, and the place after it; none where no whole entry is left
+unfoldable pub read_entry : List ℕ → ℕ → Option (Entry × ℕ)
+read_entry s a = cond (leb 5 (length (drop a s))) (Some (entry_of (drop a s), a + 5)) None
 
 -- ---- only for the code's shape: what it keeps of a row, the fields' bytes in five places; and the 14 bytes before them in a form of n bytes
 

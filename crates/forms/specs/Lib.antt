@@ -7,3 +7,4 @@ pub mod Write
 pub mod Feeder
 pub mod Comparison
 pub mod Profile
+pub mod Refusal

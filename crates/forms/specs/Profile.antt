@@ -1,5 +1,5 @@
 -- Document 01, Forms: the profile (the standards' CAMEL Subscription Information, O-CSI). `fields_of` has its fields in the paper's order; reading has no rules of its own, as with items.
-use Rattle.std.specs.Prelude.{ℕ, zero, suc, ◌+◌, List, [], ◌∷◌, ◌++◌, Bool, true, false, ◌&&◌, ◌||◌, cond, length, get_or, leb, eqb}
+use Rattle.std.specs.Prelude.{ℕ, zero, suc, ◌+◌, List, [], ◌∷◌, ◌++◌, Bool, true, false, ◌&&◌, ◌||◌, cond, length, get_or, leb, eqb, Option, Some, None, Result, Ok, Err}
 use Rattle.forms.specs.Bytes.{within, part, all, leads, same}
 use Rattle.forms.specs.Units.{is_default_timer}
 use Rattle.forms.specs.Fields.{Field, byte, run, nature, is_digit_count, digit_count, digits, bytes_in, all_in_range, framed}
@@ -9,8 +9,8 @@ use Rattle.forms.specs.declared.profile.Handling.TheVariants as H
 use Rattle.forms.specs.declared.profile.Criterion.{Criterion}
 use Rattle.forms.specs.declared.profile.Criterion.TheVariants as C
 use Rattle.forms.specs.declared.profile.ProfileView.{ProfileView}
-use Rattle.forms.specs.declared.profile.ReadProfile.{ReadProfile}
-use Rattle.forms.specs.declared.profile.ReadProfile.TheVariants as R
+use Rattle.forms.specs.declared.refusal.Refusal.{Refusal}
+use Rattle.forms.specs.declared.refusal.Refusal.TheVariants.{MalformedProfile}
 
 -- ---- the value
 
@@ -133,8 +133,12 @@ unfoldable pub is_profile : Profile → List ℕ → Bool
 is_profile p s = same (profile_bytes p) s && profile_in_range p
 
 -- what the bytes say: the profile that is written so, else refusal 2
-unfoldable pub read_profile : List ℕ → ReadProfile
-read_profile s = cond (is_profile (profile_of s) s) (R.Profile (view_of s)) (R.Refused 2)
+unfoldable pub read_profile : List ℕ → Result ProfileView Refusal
+read_profile s = cond (is_profile (profile_of s) s) (Ok (view_of s)) (Err MalformedProfile)
+
+-- only for the code's shape: the place after the n stored numbers from place q on, where all are in range
+abbrev pub end_in_range : ℕ → List ℕ → ℕ → Option ℕ
+end_in_range n s q = cond (all_in_range (number_fields (numbers_at n s q))) (Some (numbers_end n s q)) None
 
 -- ---- Triggering (004): "A stored number matches if natures are equal and its digits are the leading digits of the dialled number, which is at least as long."
 

@@ -1,5 +1,5 @@
 // Lent byte runs: reading never leaves them, whatever the place. Numbers are big-endian (document 01, Forms).
-ghost use Rattle.std.specs.Prelude.{◌≡◌, ◌+◌, ◌-◌, ◌<◌, ◌≤◌, length, get_or, drop};
+ghost use Rattle.std.specs.Prelude.{◌≡◌, ◌+◌, ◌^◌, ◌<◌, ◌≤◌, length, get_or, drop};
 ghost use Rattle.std.proofs.lemmas.List.Edits.{sets};
 ghost use Rattle.forms.specs.Bytes.{from_bytes, part, within, all, contains, leads};
 
@@ -25,38 +25,16 @@ pub fn part_of(s: &[u8], a: usize, n: usize) -> &[u8]
     if n <= t.len() { &t[..n] } else { t }
 }
 
-// a - b, and 0 where b is the larger.
-pub fn minus(a: usize, b: usize) -> usize
-    ensures { result ≡ a - b }
+// The number that the first W bytes are.
+pub fn number<const W: usize>(s: &[u8]) -> usize
+    requires { W ≤ 8 }
+    ensures { (result ≡ from_bytes W s.now) × (result < 256 ^ W) }
 {
-    if b <= a { a - b } else { 0 }
-}
-
-pub(crate) fn size(n: u8) -> usize
-    ensures { (result ≡ n) × (result < 256) }
-{
-    n as usize
-}
-
-// The numbers that the first 2, 4 and 6 bytes are.
-pub fn number2(s: &[u8]) -> usize
-    ensures { (result ≡ from_bytes 2 s.now) × (result < 65536) }
-{
-    size(at(s, 0)) * 256 + size(at(s, 1))
-}
-
-pub fn number4(s: &[u8]) -> usize
-    ensures { (result ≡ from_bytes 4 s.now) × (result < 4294967296) }
-{
-    size(at(s, 0)) * 16777216 + size(at(s, 1)) * 65536 + size(at(s, 2)) * 256 + size(at(s, 3))
-}
-
-pub(crate) fn number6(s: &[u8]) -> usize
-    ensures { (result ≡ from_bytes 6 s.now) × (result < 281474976710656) }
-{
-    let high = size(at(s, 0)) * 1099511627776 + size(at(s, 1)) * 4294967296;
-    let middle = size(at(s, 2)) * 16777216 + size(at(s, 3)) * 65536;
-    high + middle + size(at(s, 4)) * 256 + size(at(s, 5))
+    let mut n = 0;
+    for i in 0..W {
+        n = n * 256 + usize::from(at(s, i));
+    }
+    n
 }
 
 pub(crate) fn is_within(n: u8, low: u8, high: u8) -> bool
@@ -66,62 +44,30 @@ pub(crate) fn is_within(n: u8, low: u8, high: u8) -> bool
 }
 
 // Each byte is in low..high.
-#[tactic(auto, using(crate::proofs::ByteLaws::all_end, crate::proofs::ByteLaws::all_step, crate::proofs::ByteLaws::all_stop))]
 pub(crate) fn all_within(s: &[u8], low: u8, high: u8) -> bool
     ensures { result ≡ all (within low high) s.now }
 {
-    let mut i = 0;
-    while i < s.len() {
-        if is_within(s[i], low, high) {
-            i += 1;
-        } else {
-            return false;
-        }
-    }
-    true
+    s.iter().all(|&b| is_within(b, low, high))
 }
 
-// Some byte is x.
-#[tactic(auto, using(crate::proofs::ByteLaws::contains_end, crate::proofs::ByteLaws::contains_stop, crate::proofs::ByteLaws::contains_step))]
+// Some byte is x. Kept beside std's method: it says what that answers in the words of specs/, so that no caller needs a lemma.
 pub fn contains(t: &[u8], x: u8) -> bool
     ensures { result ≡ contains x t.now }
 {
-    let mut i = 0;
-    while i < t.len() {
-        if t[i] == x {
-            return true;
-        }
-        i += 1;
-    }
-    false
+    t.contains(&x)
 }
 
-// The bytes of `a` are the leading bytes of `d`.
-#[tactic(auto, using(crate::proofs::ByteLaws::leads_end, crate::proofs::ByteLaws::leads_short, crate::proofs::ByteLaws::leads_stop, crate::proofs::ByteLaws::leads_step))]
+// The bytes of `a` are the leading bytes of `d`. Kept beside std's method for the same reason.
 pub fn leads(a: &[u8], d: &[u8]) -> bool
     ensures { result ≡ leads a.now d.now }
 {
-    let mut i = 0;
-    while i < a.len() {
-        if d.len() <= i {
-            return false;
-        }
-        if a[i] != d[i] {
-            return false;
-        }
-        i += 1;
-    }
-    true
+    d.starts_with(a)
 }
 
-// Stores the bytes of `s` in `d`, from place `at` on.
+// Stores the bytes of `s` in `d`, from place `at` on. Kept beside std's method for the same reason.
 pub fn copy_in(d: &mut [u8], at: usize, s: &[u8])
     requires { at + length s.now ≤ length d.old }
     ensures { d.new ≡ sets d.old at s.now }
 {
-    let mut i = 0;
-    while i < s.len() {
-        d[at + i] = s[i];
-        i += 1;
-    }
+    d[at..at + s.len()].copy_from_slice(s);
 }

@@ -1,19 +1,31 @@
 // Items that arrive in bits (document 02, T-02): a feeder gathers the bytes of chunks of any size, and hands out each item once it is whole.
 ghost use Rattle.std.specs.Prelude.{◌≡◌, ◌++◌, [], ◌+◌, ◌≤◌, length, get_or};
-ghost use Rattle.forms.specs.Feeder.{gathered, holding, new_feeder, stopped_feeder, begins, closed_as, taken_as, take_of, without_item, whole_fed, fed_as, feed_of, reset_of};
+ghost use Rattle.forms.specs.Feeder.{bytes_of, gathered, holding, new_feeder, stopped_feeder, begins, closed_as, taken_as, take_of, whole_fed, fed_as, feed_of, reset_of};
 
 use crate::framing::Framing;
-use crate::item::{Item, ReadItem};
+use crate::item::Item;
+use crate::refusal::Refusal;
 use crate::{bytes, framing, item};
 
 // The first `count` of the bytes. Those behind them mean nothing, and are zeros in what is handed out.
+// A buffer with a length beside it: no heap; and feeders come from outside with any count, past 65 too (`Cases.closed_refused`, the program `chunks`), so no slice and no invariant.
 #[derive(Clone, Copy)]
 pub struct Gathered {
     pub bytes: [u8; 65],
     pub count: usize,
 }
 
+impl Gathered {
+    // The bytes that are held, without the zeros.
+    pub fn bytes(&self) -> &[u8]
+        ensures { result.now ≡ bytes_of self.now }
+    {
+        bytes::part_of(&self.bytes, 0, self.count)
+    }
+}
+
 // The bytes of the unfinished item, and whether a length field has stopped the feeder.
+// A flag beside a value: feeders come from outside in any state, a stopped one that holds bytes too (`Cases.closed_refused`), and `feed` hands it back unchanged.
 #[derive(Clone, Copy)]
 pub struct Feeder {
     pub held: Gathered,
@@ -21,6 +33,7 @@ pub struct Feeder {
 }
 
 // What a feeder takes of a chunk, before anything is read.
+// Four cases and no Result: `Bad` has a count of bytes beside it.
 #[derive(Clone, Copy)]
 pub enum Taken {
     // Refusal 15: nothing is taken.
@@ -33,24 +46,21 @@ pub enum Taken {
     Whole(usize),
 }
 
-// What the chunk completes.
+// An item that is handed out, the place of its digits or entries in its bytes, and its bytes.
 #[derive(Clone, Copy)]
-pub enum Completed {
-    // The item, and the place of its digits or entries in its bytes.
-    Item(Item, usize),
-    // 1 or 15.
-    Refused(u8),
-    // All of the chunk was used, and no item is whole.
-    UsedUp,
+pub struct Handed {
+    pub item: Item,
+    pub at: usize,
+    pub bytes: Gathered,
 }
 
-// The next feeder, how many bytes of the chunk were used, what was completed, and the bytes of the item that is handed out.
+// The next feeder, how many bytes of the chunk were used, and what was completed.
+// Completed is an item; none, where all of the chunk was used and no item is whole; or refusal 1 or 15.
 #[derive(Clone, Copy)]
 pub struct Fed {
     pub feeder: Feeder,
     pub used: usize,
-    pub completed: Completed,
-    pub bytes: Gathered,
+    pub completed: Result<Option<Handed>, Refusal>,
 }
 
 // The next feeder, and how many bytes were dropped.
@@ -61,6 +71,7 @@ pub struct Dropped {
 }
 
 // The bytes h and c, one behind the other.
+// Two runs that lie apart, here and in `byte_at`, `begin` and `complete`: a struct of two slices would be made anew for each.
 fn join(h: &[u8], c: &[u8]) -> Gathered
     requires { length h.now + length c.now ≤ 65 }
     ensures { result ≡ gathered (h.now ++ c.now) }
@@ -101,9 +112,8 @@ pub fn new() -> Feeder
 fn stopped() -> Feeder
     ensures { result ≡ stopped_feeder }
 {
-    let held = nothing();
     Feeder {
-        held,
+        held: nothing(),
         stopped: true,
     }
 }
@@ -123,7 +133,7 @@ fn byte_at(h: &[u8], c: &[u8], i: usize) -> u8
 fn begin(h: &[u8], c: &[u8]) -> Framing
     ensures { result ≡ begins (h.now ++ c.now) }
 {
-    let n = bytes::size(byte_at(h, c, 0)) * 256 + bytes::size(byte_at(h, c, 1));
+    let n = usize::from(byte_at(h, c, 0)) * 256 + usize::from(byte_at(h, c, 1));
     framing::of_item(h.len() + c.len(), n)
 }
 
@@ -131,7 +141,7 @@ fn begin(h: &[u8], c: &[u8]) -> Framing
 fn is_closed(stopped: bool, h: &[u8]) -> bool
     ensures { result ≡ closed_as stopped h.now }
 {
-    stopped | !framing::is_short(framing::of_item(h.len(), bytes::number2(h)))
+    stopped | !framing::is_short(framing::of_item(h.len(), bytes::number::<2>(h)))
 }
 
 // What is taken of a chunk behind the bytes h.
@@ -140,8 +150,8 @@ fn take_on(f: Framing, h: &[u8]) -> Taken
 {
     match f {
         Framing::Short => Taken::Unfinished,
-        Framing::Bad => Taken::Bad(bytes::minus(2, h.len())),
-        Framing::Whole(n) => Taken::Whole(bytes::minus(n, h.len())),
+        Framing::Bad => Taken::Bad(2usize.saturating_sub(h.len())),
+        Framing::Whole(n) => Taken::Whole(n.saturating_sub(h.len())),
     }
 }
 
@@ -150,26 +160,11 @@ fn take_on(f: Framing, h: &[u8]) -> Taken
 pub fn take(f: Feeder, chunk: &[u8]) -> Taken
     ensures { result ≡ take_of f chunk.now }
 {
-    let g = f.held;
-    let bytes = g.bytes;
-    let h = bytes::part_of(&bytes, 0, g.count);
+    let h = f.held.bytes();
     if is_closed(f.stopped, h) {
         Taken::Closed
     } else {
         take_on(begin(h, chunk), h)
-    }
-}
-
-// Where no item is handed out.
-fn without_item(feeder: Feeder, used: usize, completed: Completed) -> Fed
-    ensures { result ≡ without_item feeder used completed }
-{
-    let bytes = nothing();
-    Fed {
-        feeder,
-        used,
-        completed,
-        bytes,
     }
 }
 
@@ -179,17 +174,11 @@ fn complete(h: &[u8], c: &[u8], n: usize) -> Fed
     ensures { result ≡ whole_fed n (h.now ++ c.now) }
 {
     let g = join(h, c);
-    let bytes = g.bytes;
-    let read = item::read_item(bytes::part_of(&bytes, 0, g.count));
-    let feeder = new();
-    match read {
-        ReadItem::Item(i, at) => Fed {
-            feeder,
-            used: n,
-            completed: Completed::Item(i, at),
-            bytes: g,
-        },
-        ReadItem::Refused(m) => without_item(feeder, n, Completed::Refused(m)),
+    let read = item::read_item(g.bytes());
+    Fed {
+        feeder: new(),
+        used: n,
+        completed: read.map(|(item, at)| Some(Handed { item, at, bytes: g })),
     }
 }
 
@@ -198,13 +187,23 @@ fn feed_on(t: Taken, f: Feeder, chunk: &[u8]) -> Fed
     requires { t ≡ take_of f chunk.now }
     ensures { result ≡ fed_as t f chunk.now }
 {
-    let g = f.held;
-    let bytes = g.bytes;
-    let h = bytes::part_of(&bytes, 0, g.count);
+    let h = f.held.bytes();
     match t {
-        Taken::Closed => without_item(f, 0, Completed::Refused(15)),
-        Taken::Bad(n) => without_item(stopped(), n, Completed::Refused(1)),
-        Taken::Unfinished => without_item(hold(join(h, chunk)), chunk.len(), Completed::UsedUp),
+        Taken::Closed => Fed {
+            feeder: f,
+            used: 0,
+            completed: Err(Refusal::FeederClosed),
+        },
+        Taken::Bad(n) => Fed {
+            feeder: stopped(),
+            used: n,
+            completed: Err(Refusal::MalformedItem),
+        },
+        Taken::Unfinished => Fed {
+            feeder: hold(join(h, chunk)),
+            used: chunk.len(),
+            completed: Ok(None),
+        },
         Taken::Whole(n) => complete(h, bytes::part_of(chunk, 0, n), n),
     }
 }
@@ -222,9 +221,7 @@ pub fn feed(f: Feeder, chunk: &[u8]) -> Fed
 pub fn reset(f: Feeder) -> Dropped
     ensures { result ≡ reset_of f }
 {
-    let g = f.held;
-    let bytes = g.bytes;
-    let h = bytes::part_of(&bytes, 0, g.count);
+    let h = f.held.bytes();
     let feeder = new();
     if is_closed(f.stopped, h) {
         Dropped { feeder, count: 0 }

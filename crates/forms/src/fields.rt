@@ -28,7 +28,7 @@ pub fn is_digit_count(n: usize) -> bool
     (1 <= n) & (n <= MOST_DIGITS as usize)
 }
 
-// Each byte is a digit count.
+// Each byte is a digit count; below, each is a digit: two names of one function, so that each range is said once.
 pub(crate) fn are_digit_counts(s: &[u8]) -> bool
     ensures { result ≡ all is_digit_count s.now }
 {
@@ -64,7 +64,6 @@ pub(crate) fn is_entry_count(n: u8) -> bool
 pub(crate) fn is_framed(s: &[u8]) -> bool
     ensures { result ≡ leads (frame (length s.now)) s.now }
 {
-    let n = s.len();
-    let start = [(n / 256 % 256) as u8, (n % 256) as u8, 1];
-    bytes::leads(&start, s)
+    let n = s.len().to_be_bytes();
+    bytes::leads(&[n[6], n[7], 1], s)
 }

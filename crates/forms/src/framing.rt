@@ -3,6 +3,7 @@ ghost use Rattle.std.specs.Prelude.{◌≡◌};
 ghost use Rattle.forms.specs.Framing.{framing_of, is_short, item_framing, profile_framing};
 
 // What a run of bytes begins with: a form that is not whole yet, a length that no form has, or a form of so many bytes.
+// Three cases and no Result: a length that no form has is refusal 1 of an item and 2 of a profile, so it is no refusal yet.
 #[derive(Clone, Copy)]
 pub enum Framing {
     Short,
@@ -13,11 +14,7 @@ pub enum Framing {
 pub fn is_short(f: Framing) -> bool
     ensures { result ≡ is_short f }
 {
-    match f {
-        Framing::Short => true,
-        Framing::Bad => false,
-        Framing::Whole(_) => false,
-    }
+    matches!(f, Framing::Short)
 }
 
 // `total` bytes whose first two are the number n, where forms have low..high bytes.
@@ -28,10 +25,7 @@ fn of_form(low: usize, high: usize, total: usize, n: usize) -> Framing
     if total < 2 {
         return Framing::Short;
     }
-    if n < low {
-        return Framing::Bad;
-    }
-    if high < n {
+    if n < low || high < n {
         return Framing::Bad;
     }
     if total < n {
@@ -40,6 +34,7 @@ fn of_form(low: usize, high: usize, total: usize, n: usize) -> Framing
     Framing::Whole(n)
 }
 
+// Two names of one function: the bounds of each form, said once.
 pub fn of_item(total: usize, n: usize) -> Framing
     ensures { result ≡ item_framing total n }
 {

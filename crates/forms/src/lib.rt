@@ -10,5 +10,6 @@ pub mod framing;
 pub mod item;
 pub mod profile;
 pub mod reader;
+pub mod refusal;
 pub mod units;
 pub mod write;

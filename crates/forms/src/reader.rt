@@ -4,7 +4,8 @@ ghost use Rattle.std.specs.Prelude.{◌≡◌, drop};
 ghost use Rattle.forms.specs.Item.{read_item_at, read_entry};
 
 use crate::bytes;
-use crate::item::{ReadEntry, ReadItem, read_entry, read_item_at};
+use crate::item::{Entry, Item, read_entry, read_item_at};
+use crate::refusal::Refusal;
 
 #[derive(Clone, Copy)]
 pub struct Reader<'a> {
@@ -21,7 +22,7 @@ impl<'a> Reader<'a> {
     }
 
     // The item at the place, and the place of its digits or entries; or refusal 1.
-    pub fn item(self) -> ReadItem
+    pub fn item(self) -> Result<(Item, usize), Refusal>
         ensures { result ≡ read_item_at self.entry.src.now self.entry.at }
     {
         read_item_at(self.src, self.at)
@@ -34,8 +35,8 @@ impl<'a> Reader<'a> {
         bytes::from(self.src, self.at)
     }
 
-    // The entry at the place and the place after it, or the end.
-    pub fn entry(self) -> ReadEntry
+    // The entry at the place and the place after it, or none at the end.
+    pub fn entry(self) -> Option<(Entry, usize)>
         ensures { result ≡ read_entry self.entry.src.now self.entry.at }
     {
         read_entry(self.src, self.at)

@@ -1,26 +1,17 @@
 // Tenths of a second and whole seconds, kept apart (document 01, Units).
+// `Tenths::period` and `Seconds::timer` are twins: document 01 wants each unit's ceiling and checked constructor on its own type.
 ghost use Rattle.std.specs.Prelude.{◌≡◌};
 ghost use Rattle.forms.specs.Units.{is_clock_reading, is_period, period_of, is_timer, timer_of, is_default_timer, tenths_of};
 
+use crate::refusal::Refusal;
+
 // Clock readings, charged periods and elapsed times.
-#[derive(Clone, Copy)]
+#[derive(Clone, Copy, PartialEq, Eq, PartialOrd, Ord)]
 pub struct Tenths(pub u64);
 
 // No-answer timers.
-#[derive(Clone, Copy)]
+#[derive(Clone, Copy, PartialEq, Eq, PartialOrd, Ord)]
 pub struct Seconds(pub u32);
-
-#[derive(Clone, Copy)]
-pub enum Period {
-    Of(Tenths),
-    Refused(u8),
-}
-
-#[derive(Clone, Copy)]
-pub enum Timer {
-    Of(Seconds),
-    Refused(u8),
-}
 
 impl Tenths {
     pub const LONGEST_PERIOD: Tenths = Tenths(864000);
@@ -40,15 +31,15 @@ impl Tenths {
         (1 <= self.0) & (self.0 <= Self::LONGEST_PERIOD.0)
     }
 
-    // A period of n tenths, or refusal 1.
-    pub fn period(n: u64) -> Period
+    // A period of n tenths, or refusal 1, malformed item.
+    pub fn period(n: u64) -> Result<Tenths, Refusal>
         ensures { result ≡ period_of n }
     {
         let p = Tenths(n);
         if p.is_period() {
-            Period::Of(p)
+            Ok(p)
         } else {
-            Period::Refused(1)
+            Err(Refusal::MalformedItem)
         }
     }
 }
@@ -69,15 +60,15 @@ impl Seconds {
         (10 <= self.0) & (self.0 <= 180)
     }
 
-    // A timer of n seconds, or refusal 11.
-    pub fn timer(n: u32) -> Timer
+    // A timer of n seconds, or refusal 11, bad entry.
+    pub fn timer(n: u32) -> Result<Seconds, Refusal>
         ensures { result ≡ timer_of n }
     {
         let t = Seconds(n);
         if t.is_timer() {
-            Timer::Of(t)
+            Ok(t)
         } else {
-            Timer::Refused(11)
+            Err(Refusal::BadEntry)
         }
     }
 

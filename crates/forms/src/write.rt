@@ -5,33 +5,18 @@ ghost use Rattle.forms.specs.Item.{form_of, item_bytes, rest_at, head_of, fixed_
 ghost use Rattle.forms.specs.Write.{written, after};
 
 use crate::item::Item;
+use crate::refusal::Refusal;
 use crate::{bytes, item};
-
-#[derive(Clone, Copy)]
-pub enum Written {
-    Length(usize),
-    Refused(u8),
-}
 
 // The first 14 bytes of n in all: length, version, kind, call, time.
 fn head_of(n: usize, kind: u8, call: u32, time: u64) -> [u8; 14]
     ensures { result ≡ head_of n kind call time }
 {
+    let n = n.to_be_bytes();
+    let c = call.to_be_bytes();
+    let t = time.to_be_bytes();
     [
-        (n / 256 % 256) as u8,
-        (n % 256) as u8,
-        1,
-        kind,
-        (call / 256 / 256 / 256 % 256) as u8,
-        (call / 256 / 256 % 256) as u8,
-        (call / 256 % 256) as u8,
-        (call % 256) as u8,
-        (time / 256 / 256 / 256 / 256 / 256 % 256) as u8,
-        (time / 256 / 256 / 256 / 256 % 256) as u8,
-        (time / 256 / 256 / 256 % 256) as u8,
-        (time / 256 / 256 % 256) as u8,
-        (time / 256 % 256) as u8,
-        (time % 256) as u8,
+        n[6], n[7], 1, kind, c[0], c[1], c[2], c[3], t[2], t[3], t[4], t[5], t[6], t[7],
     ]
 }
 
@@ -52,28 +37,25 @@ fn put_item(d: &mut [u8], item: Item, f: item::Fixed, n: usize, t: &[u8])
     requires { ((f ≡ fixed_of (form_of item.body)) × (n ≡ rest_at item.body + length t.now)) × (n ≤ length d.old) }
     ensures { d.new ≡ sets d.old 0 (item_bytes item t.now) }
 {
-    let time = item.time.0;
-    let bytes = f.bytes;
-    let head = head_of(n, f.kind, item.call, time);
-    put_parts(d, &head, bytes::part_of(&bytes, 0, bytes::size(f.len)), t);
+    let head = head_of(n, f.kind, item.call, item.time.0);
+    put_parts(d, &head, bytes::part_of(&f.bytes, 0, usize::from(f.len)), t);
 }
 
-// Writes the item, whose digits or entries are `t`, at the start of `d`. Refusal 1 where a value is out of range or `d` too short.
+// Writes the item, whose digits or entries are `t`, at the start of `d`, and answers its length. Refusal 1, malformed item, where a value is out of range or `d` too short.
 #[tactic(auto, using(crate::proofs::ItemLaws::rest_at_lem))]
-pub fn write_item(item: Item, t: &[u8], d: &mut [u8]) -> Written
+pub fn write_item(item: Item, t: &[u8], d: &mut [u8]) -> Result<usize, Refusal>
     ensures { (result ≡ written item t.now d.old) × (d.new ≡ after item t.now d.old) }
 {
-    let body = item.body;
-    let f = item::fixed_of(body);
+    let f = item::fixed_of(item.body);
     let n = item::rest_at(f) + t.len();
     if item::item_in_range(item, f, t) {
         if n <= d.len() {
             put_item(d, item, f, n, t);
-            Written::Length(n)
+            Ok(n)
         } else {
-            Written::Refused(1)
+            Err(Refusal::MalformedItem)
         }
     } else {
-        Written::Refused(1)
+        Err(Refusal::MalformedItem)
     }
 }

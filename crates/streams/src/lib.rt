@@ -1,11 +1,11 @@
-// Whole reads and writes for the programs, over std's readers and writers. At the three standard streams a `read` or a `write` is one call of the system, with no buffer between.
+// Whole reads and writes for the programs, over std's readers and writers, and a test program's next case. At the three standard streams a `read` or a `write` is one call of the system, with no buffer between.
 // A call that a signal interrupts before it moves a byte counts as one that failed: nothing is tried again.
 #![tactic(auto)]
 
 #[cfg(test)]
 mod tests;
 
-ghost use Rattle.std.specs.Prelude.{◌≡◌, ℕ, ◌≤◌, length, take, IsTrue};
+ghost use Rattle.std.specs.Prelude.{◌≡◌, ℕ, ◌+◌, ◌*◌, ◌≤◌, length, get_or, take, IsTrue, IfSome};
 ghost use Rattle.std.specs.Io.KnownBytes.{Appends, Consumes};
 ghost use Rattle.io.specs.Digits.{IsDigitCount, last_digits};
 
@@ -13,9 +13,11 @@ pub use io::large_buffer;
 use std::io::{Read, Write};
 
 // Writes all of the bytes and answers true, or stops at the first write that takes nothing or fails and answers false, when some of the bytes may have been written. For no bytes it makes no call.
+// Kept, a bool: the promise is of a `true`, and a `false` has nothing to tell beside it.
 pub fn write_all<W: Write>(to: &mut W, bytes: &[u8]) -> bool
     ensures { IsTrue result → Appends (W.contents to.old) (W.contents to.new) bytes.now }
 {
+    // Kept, a loop over `write`: after an `Err`, `write_all` of std does not say how much was written, and it tries an interrupted write again.
     let mut done = 0;
     while done < bytes.len() {
         match to.write(&bytes[done..]) {
@@ -41,6 +43,7 @@ pub fn read_full<R: Read>(from: &mut R, buf: &mut [u8]) -> usize
     ensures within { result ≤ length buf.new }
     ensures bytes { Consumes (R.remaining from.old) (R.remaining from.new) (take result buf.new) }
 {
+    // Kept, a loop over `read`: after an `Err`, no method of std says how much was read, and those that fill a buffer try an interrupted read again.
     let mut done = 0;
     while done < buf.len() {
         match from.read(&mut buf[done..]) {
@@ -49,4 +52,22 @@ pub fn read_full<R: Read>(from: &mut R, buf: &mut [u8]) -> usize
         }
     }
     done
+}
+
+// Reads a test program's next case to the start of the buffer, and answers its bytes: its length in two bytes, themselves included, and what follows. A case has `head` bytes at least.
+// None where no case is left, where it is cut short, and where its length is below `head` or above the buffer's.
+pub fn read_case<'a, R: Read>(from: &mut R, head: usize, buf: &'a mut [u8]) -> Option<&'a [u8]>
+    requires { 2 ≤ head }
+    ensures within { IfSome result (λ t. head ≤ length t.now) }
+    ensures whole { IfSome result (λ t. length t.now ≡ get_or t.now 0 0 * 256 + get_or t.now 1 0) }
+    ensures bytes { IfSome result (λ t. Consumes (R.remaining from.old) (R.remaining from.new) t.now) }
+{
+    if buf.len() < head || read_full(from, &mut buf[..head]) < head {
+        return None;
+    }
+    let n = usize::from(u16::from_be_bytes([buf[0], buf[1]]));
+    if n < head || buf.len() < n || read_full(from, &mut buf[head..n]) < n - head {
+        return None;
+    }
+    Some(&buf[..n])
 }

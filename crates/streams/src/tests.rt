@@ -79,3 +79,21 @@ fn numbers_have_no_line_end(rt: HostRuntime) {
         assert_eq!(rt; to.calls, calls, "of {number}");
     }
 }
+
+#[test]
+fn cases_are_whole(rt: HostRuntime) {
+    // The last four: one that is cut short, none, a length below the head's, and one above the buffer's.
+    for (bytes, head, length) in [
+        (b"\x00\x05abc\x00\x02".as_slice(), 2, Some(5)),
+        (b"\x00\x02".as_slice(), 2, Some(2)),
+        (b"\x00\x04d".as_slice(), 2, None),
+        (b"".as_slice(), 2, None),
+        (b"\x00\x02abc".as_slice(), 3, None),
+        (b"\x00\x06abcd".as_slice(), 2, None),
+    ] {
+        let mut from = bytes;
+        let mut buf = [0u8; 5];
+        let case = read_case(&mut from, head, &mut buf);
+        assert_eq!(rt; case.map(|t| t.len()), length);
+    }
+}

@@ -4,17 +4,18 @@ use Prim.Native.Nat.{ℕ, zero, suc, ◌+◌, ◌*◌}
 use mathlib.Core.Path.{◌≡◌, refl}
 use mathlib.Core.Bool.{Bool, true, false}
 use mathlib.Core.List.{List, [], ◌∷◌, ◌++◌, map, flatten}
-use mathlib.Core.Option.{Option, none, some}
+use Rattle.std.specs.Prelude as std
+use Rattle.std.specs.Prelude.{Option, None, Some, Err}
 use lib.ListN.{get_or, set, take, drop}
 use Rattle.forms.specs.Bytes as bytes
 use Rattle.forms.specs.Bytes.{contains, leads, same}
-use Rattle.forms.specs.Item.{item_bytes, item_in_range, rest_at, body_from, body_of, item_of, is_item, read_item, entry_of}
+use Rattle.forms.specs.Item.{item_bytes, item_in_range, rest_at, setup_of, body_from, body_of, item_of, is_item, read_item, entry_of}
 use Rattle.forms.specs.Profile.{fields_of, profile_bytes, profile_in_range, numbers_at, numbers_end, view_at, profile_of, is_profile, some_matches}
 use Rattle.forms.specs.declared.item.Body.{Body}
 use Rattle.forms.specs.declared.item.Bcsm.TheVariants.{Originating, Terminating}
 use Rattle.forms.specs.declared.item.Body.TheVariants as body
 use Rattle.forms.proofs.Cases as forms
-use Rattle.call.specs.declared.answers.Answer.TheVariants.{Refused}
+use Rattle.forms.specs.declared.refusal.Refusal.TheVariants.{MalformedItem, MalformedProfile, DamagedTable, CallNotOpen, CallOpen, TableFull}
 use Rattle.forms.specs.declared.item.Leg.TheVariants.{Two}
 use Rattle.call.specs.Armings.{some_armed, nothing_armed}
 use Rattle.call.specs.Record.{armed_as, with_leg, leg, running}
@@ -27,12 +28,11 @@ use Rattle.call.specs.Step.{respond_in}
 use Rattle.call.specs.Setup.{early_of, set_up_of, open_of}
 use Rattle.call.specs.Alone.{Input, alone_step}
 use Rattle.call.proofs.Cases as call
-use Rattle.table.specs.declared.slot.Owner.TheVariants.{Free}
 use Rattle.table.specs.declared.lookup.Spot.TheVariants as spot
-use Rattle.table.specs.Types.{Item, ReadItem, Record, Answer, Slot, Spot}
+use Rattle.table.specs.Types.{Item, Refusal, Record, Answer, Early, Slot, Spot}
 use Rattle.table.specs.Runs.{cons_if, only, log, final, each_alone}
 use Rattle.table.specs.Table.{of_call, next, find, all, first, look, fresh, once, is_sound, unless, store, seat, setup_at, other_at, serve, damage, table_step}
-use Rattle.table.specs.Slot.{owner_of, owned_by, blank_slot, our_slots}
+use Rattle.table.specs.Slot.{owned_by, blank_slot, our_slots}
 use Rattle.table.specs.Feed.{item_in, rest_in, our_call, feed_step, feed_item_of}
 use Rattle.table.specs.Independence.{items_of, lines_of}
 use Rattle.table.specs.Check.{calls, among, is_once}
@@ -60,9 +60,13 @@ pub data Edge : Type 0 where
   Damage : Edge
   OneCall : Edge
 
+-- what bytes read as: an item and the place of its digits or entries, or the refusal
+abbrev pub Read : Type 0
+Read = std.Result (Item × ℕ) Refusal
+
 -- bytes and what they read as; a table, what is fed to it first, and then items with their answers; what is fed to a fresh table, and the owners of its first slots
 pub data Shown : Type 0 where
-  reads : List ℕ → ReadItem → Shown
+  reads : List ℕ → Read → Shown
   answers : List Slot → List Input → List (Input × Answer) → Shown
   owners : List Input → List (Option ℕ) → Shown
 
@@ -71,14 +75,14 @@ pub record Case : Type 0 where
   pub shown : Shown
 
 pub data Result : Type 0 where
-  reading : ReadItem → Result
+  reading : Read → Result
   answered : List Answer → Result
   owned : List (Option ℕ) → Result
 
 abbrev computed : Shown → Result
 computed (reads s r) = reading (read_item s)
 computed (answers t before l) = answered (map (λ (e : Input × Answer). e.1) (log feed_step (final feed_step t before) (map (λ (e : Input × Answer). e.0) l)))
-computed (owners l o) = owned (map (λ (e : Slot). owner_of e.owner) (take 4 (final feed_step (fresh our_slots) l)))
+computed (owners l o) = owned (map (λ (e : Slot). e.owner) (take 4 (final feed_step (fresh our_slots) l)))
 
 abbrev wanted : Shown → Result
 wanted (reads s r) = reading r
@@ -100,10 +104,10 @@ abbrev item_of_call : ℕ → Body → List ℕ → Input
 item_of_call k b rest = record { item = item_bytes (record { call = k; time = record { 0 = 1000 }; body = b }) rest; profile = plain }
 
 abbrev setup : ℕ → Input
-setup k = item_of_call k (body.Setup Originating 4 0 false 1) (4 ∷ [])
+setup k = item_of_call k (body.Setup (setup_of Originating 4 0 false 1)) (4 ∷ [])
 
 abbrev terminating : ℕ → Input
-terminating k = item_of_call k (body.Setup Terminating 4 0 false 1) (4 ∷ [])
+terminating k = item_of_call k (body.Setup (setup_of Terminating 4 0 false 1)) (4 ∷ [])
 
 abbrev release : ℕ → Input
 release k = item_of_call k body.Release []
@@ -149,7 +153,7 @@ started_at n = with_leg Two record7 (leg record7.leg2 (running (record { 0 = 600
 -- refusal 3: "table not 64 records, a field out of range, a free record not blank, start later than last time, or one call twice"
 abbrev damaged : List (List Slot)
 damaged =
-    drop 1 (fresh our_slots) ∷ (blank_slot ∷ fresh our_slots) ∷ with7 (keeps 2048) ∷ set open7 1 (record { owner = Free; body = record7 })
+    drop 1 (fresh our_slots) ∷ (blank_slot ∷ fresh our_slots) ∷ with7 (keeps 2048) ∷ set open7 1 (record { owner = None; body = record7 })
     ∷ with7 (started_at 1001) ∷ set open7 1 (owned_by 7 record7) ∷ []
 
 -- beside them, still in range
@@ -170,17 +174,17 @@ shown =
     ++ named (Listing ∷ []) (answers (fresh our_slots) [] (map (λ (c : call.Case). (c.last, c.answer)) (take 6 call.runs)) ∷ [])
     -- P8 with 64 open, originating ones and of both kinds: a new Setup is 6, one for an open call 5, of either kind; 2 comes before both
     ++ named (P8 ∷ P8 ∷ [])
-    (answers (fresh our_slots) (setups 64) ((bare (setup 65), Refused 2) ∷ (bare (setup 1), Refused 2) ∷ (setup 65, Refused 6) ∷ (setup 64, Refused 5) ∷ (setup 1, Refused 5) ∷ [])
-    ∷ answers (fresh our_slots) (mixed 32) ((bare (terminating 65), Refused 2) ∷ (setup 65, Refused 6) ∷ (terminating 65, Refused 6) ∷ (setup 2, Refused 5) ∷ (terminating 1, Refused 5) ∷ (terminating 2, Refused 5) ∷ [])
+    (answers (fresh our_slots) (setups 64) ((bare (setup 65), Err MalformedProfile) ∷ (bare (setup 1), Err MalformedProfile) ∷ (setup 65, Err TableFull) ∷ (setup 64, Err CallOpen) ∷ (setup 1, Err CallOpen) ∷ [])
+    ∷ answers (fresh our_slots) (mixed 32) ((bare (terminating 65), Err MalformedProfile) ∷ (setup 65, Err TableFull) ∷ (terminating 65, Err TableFull) ∷ (setup 2, Err CallOpen) ∷ (terminating 1, Err CallOpen) ∷ (terminating 2, Err CallOpen) ∷ [])
     ∷ [])
     -- "Setup takes the lowest free slot. Freed slots are used again."
     ++ named (Slots ∷ Slots ∷ [])
-    (owners (setup 7 ∷ setup 8 ∷ setup 9 ∷ release 9 ∷ release 7 ∷ setup 10 ∷ []) (some 10 ∷ some 8 ∷ none ∷ none ∷ [])
-    ∷ owners (setups 64 ++ (release 62 ∷ setup 65 ∷ [])) (some 64 ∷ some 63 ∷ some 65 ∷ some 61 ∷ [])
+    (owners (setup 7 ∷ setup 8 ∷ setup 9 ∷ release 9 ∷ release 7 ∷ setup 10 ∷ []) (Some 10 ∷ Some 8 ∷ None ∷ None ∷ [])
+    ∷ owners (setups 64 ++ (release 62 ∷ setup 65 ∷ [])) (Some 64 ∷ Some 63 ∷ Some 65 ∷ Some 61 ∷ [])
     ∷ [])
     -- refusal 3 comes after 1 and 2, and before 4 and 5; only a Setup's profile counts
-    ++ map (λ (t : List Slot). record { edge = Damage; shown = answers t [] ((malformed, Refused 1) ∷ (too_long, Refused 1) ∷ (bare (setup 9), Refused 2) ∷ (bare (release 9), Refused 3) ∷ (setup 7, Refused 3) ∷ []) }) damaged
-    ++ map (λ (t : List Slot). record { edge = Damage; shown = answers t [] ((too_long, Refused 1) ∷ (bare (setup 7), Refused 2) ∷ (bare (release 9), Refused 4) ∷ (setup 7, Refused 5) ∷ []) }) sound
+    ++ map (λ (t : List Slot). record { edge = Damage; shown = answers t [] ((malformed, Err MalformedItem) ∷ (too_long, Err MalformedItem) ∷ (bare (setup 9), Err MalformedProfile) ∷ (bare (release 9), Err DamagedTable) ∷ (setup 7, Err DamagedTable) ∷ []) }) damaged
+    ++ map (λ (t : List Slot). record { edge = Damage; shown = answers t [] ((too_long, Err MalformedItem) ∷ (bare (setup 7), Err MalformedProfile) ∷ (bare (release 9), Err CallNotOpen) ∷ (setup 7, Err CallOpen) ∷ []) }) sound
 
 pub cases : map (λ (c : Case). computed c.shown) shown ≡ map (λ (c : Case). wanted c.shown) shown
 unfolding flatten bytes.all contains leads same item_bytes item_in_range rest_at body_from body_of item_of is_item read_item entry_of fields_of profile_bytes profile_in_range numbers_at numbers_end view_at profile_of is_profile some_matches triggers some_armed nothing_armed entries_of are_good are_possible armed_with met continued aborted respond_in early_of set_up_of open_of places_in_range number_in_range in_range_of are_fields_blank is_blank log final next find all fresh once is_sound unless store seat setup_at other_at serve damage table_step blank_slot
@@ -189,12 +193,12 @@ cases = refl
 -- ---- a Setup that is handed in as a value, on a fresh table and on a damaged one; a time past the last clock reading would be written as 1000
 
 abbrev value_at : ℕ → Item
-value_at time = record { call = 7; time = record { 0 = time }; body = body.Setup Originating 4 0 false 1 }
+value_at time = record { call = 7; time = record { 0 = time }; body = body.Setup (setup_of Originating 4 0 false 1) }
 
 abbrev fed_at : ℕ → List Answer
 fed_at time = map (λ (t : List Slot). (feed_item_of t (value_at time) (4 ∷ []) plain).0) (fresh our_slots ∷ drop 1 (fresh our_slots) ∷ [])
 
-pub as_values : map fed_at (1000 ∷ 281474976711656 ∷ []) ≡ (triggered ∷ Refused 3 ∷ []) ∷ (Refused 1 ∷ Refused 1 ∷ []) ∷ []
+pub as_values : map fed_at (1000 ∷ 281474976711656 ∷ []) ≡ (triggered ∷ Err DamagedTable ∷ []) ∷ (Err MalformedItem ∷ Err MalformedItem ∷ []) ∷ []
 unfolding flatten bytes.all contains leads same item_bytes item_in_range rest_at body_from body_of item_of is_item read_item entry_of fields_of profile_bytes profile_in_range numbers_at numbers_end view_at profile_of is_profile some_matches triggers some_armed nothing_armed entries_of are_good are_possible armed_with met continued aborted respond_in early_of set_up_of open_of places_in_range number_in_range in_range_of are_fields_blank is_blank log final next find all fresh once is_sound unless store seat setup_at other_at serve damage table_step blank_slot
 as_values = refl
 
@@ -202,8 +206,8 @@ as_values = refl
 
 abbrev turns : List (Input × Answer)
 turns =
-    (setup 7, triggered) ∷ (terminating 8, triggered_at12) ∷ (release 7, ended) ∷ (release 7, Refused 4) ∷ (setup 8, Refused 5) ∷ (release 9, Refused 4) ∷ (terminating 7, triggered_at12)
-    ∷ (bare (terminating 8), Refused 2) ∷ (release 8, ended) ∷ []
+    (setup 7, triggered) ∷ (terminating 8, triggered_at12) ∷ (release 7, ended) ∷ (release 7, Err CallNotOpen) ∷ (setup 8, Err CallOpen) ∷ (release 9, Err CallNotOpen) ∷ (terminating 7, triggered_at12)
+    ∷ (bare (terminating 8), Err MalformedProfile) ∷ (release 8, ended) ∷ []
 
 abbrev items : List Input
 items = map (λ (e : Input × Answer). e.0) turns
@@ -212,20 +216,24 @@ abbrev answers_in : List (Input × Answer) → List Answer
 answers_in = map (λ (e : Input × Answer). e.1)
 
 abbrev owners_in : List Slot → List (Option ℕ)
-owners_in t = map (λ (e : Slot). owner_of e.owner) (take 4 t)
+owners_in t = map (λ (e : Slot). e.owner) (take 4 t)
 
--- an item on a sound table as the code takes it, by the definitions of its parts
+-- an item on a sound table as the code takes it, by the definitions of its parts: refused early, or served
+abbrev code_as : Early → List Slot → Input → Answer × List Slot
+code_as (Err n) t x = (Err n, t)
+code_as (std.Ok o) t x = served_of t (item_in x) (rest_in x) o
+
 abbrev code_step : List Slot → Input → Answer × List Slot
-code_step t x = served_of t (item_in x) (rest_in x) (early_of false (item_in x) (rest_in x) x.profile)
+code_step t x = code_as (early_of false (item_in x) (rest_in x) x.profile) t x
 
 -- the answers on the table, of each call by itself, and of the code's parts
-pub by_turns : answers_in (log feed_step (fresh our_slots) items) ∷ answers_in (each_alone by_itself (of_call our_call) our_call.call none [] items) ∷ answers_in (log code_step (fresh our_slots) items) ∷ []
+pub by_turns : answers_in (log feed_step (fresh our_slots) items) ∷ answers_in (each_alone by_itself (of_call our_call) our_call.call None [] items) ∷ answers_in (log code_step (fresh our_slots) items) ∷ []
     ≡ answers_in turns ∷ answers_in turns ∷ answers_in turns ∷ []
 unfolding flatten bytes.all contains leads same item_bytes item_in_range rest_at body_from body_of item_of is_item read_item entry_of fields_of profile_bytes profile_in_range numbers_at numbers_end view_at profile_of is_profile some_matches triggers some_armed nothing_armed entries_of are_good are_possible armed_with met continued aborted respond_in early_of set_up_of open_of places_in_range number_in_range in_range_of are_fields_blank is_blank log final next find all fresh once is_sound unless store seat setup_at other_at serve damage table_step blank_slot each_alone only cons_if alone_step
 by_turns = refl
 
 -- what they leave: call 7 in slot 0
-pub left_by_turns : map owners_in (final feed_step (fresh our_slots) items ∷ final code_step (fresh our_slots) items ∷ []) ≡ map (λ (n : ℕ). some 7 ∷ none ∷ none ∷ none ∷ []) (1 ∷ 2 ∷ [])
+pub left_by_turns : map owners_in (final feed_step (fresh our_slots) items ∷ final code_step (fresh our_slots) items ∷ []) ≡ map (λ (n : ℕ). Some 7 ∷ None ∷ None ∷ None ∷ []) (1 ∷ 2 ∷ [])
 unfolding flatten bytes.all contains leads same item_bytes item_in_range rest_at body_from body_of item_of is_item read_item entry_of fields_of profile_bytes profile_in_range numbers_at numbers_end view_at profile_of is_profile some_matches triggers some_armed nothing_armed entries_of are_good are_possible armed_with met continued aborted respond_in early_of set_up_of open_of places_in_range number_in_range in_range_of are_fields_blank is_blank log final next find all fresh once is_sound unless store seat setup_at other_at serve damage table_step blank_slot
 left_by_turns = refl
 
@@ -235,16 +243,16 @@ abbrev two : List Slot
 two = set open7 1 (owned_by 8 (keeps 30))
 
 abbrev kept_in : Option Record → Option ℕ
-kept_in none = none
-kept_in (some r) = some r.kept.0
+kept_in None = None
+kept_in (Some r) = Some r.kept.0
 
 abbrev its : ℕ → List Input × List Answer × Option ℕ
 its k = (items_of our_call k items, answers_in (lines_of our_call k turns), kept_in (look our_slots k two))
 
 pub of_each_call : map its (7 ∷ 8 ∷ 9 ∷ [])
-    ≡ (setup 7 ∷ release 7 ∷ release 7 ∷ terminating 7 ∷ [], triggered ∷ ended ∷ Refused 4 ∷ triggered_at12 ∷ [], some 0)
-    ∷ (terminating 8 ∷ setup 8 ∷ bare (terminating 8) ∷ release 8 ∷ [], triggered_at12 ∷ Refused 5 ∷ Refused 2 ∷ ended ∷ [], some 30)
-    ∷ (release 9 ∷ [], Refused 4 ∷ [], none)
+    ≡ (setup 7 ∷ release 7 ∷ release 7 ∷ terminating 7 ∷ [], triggered ∷ ended ∷ Err CallNotOpen ∷ triggered_at12 ∷ [], Some 0)
+    ∷ (terminating 8 ∷ setup 8 ∷ bare (terminating 8) ∷ release 8 ∷ [], triggered_at12 ∷ Err CallOpen ∷ Err MalformedProfile ∷ ended ∷ [], Some 30)
+    ∷ (release 9 ∷ [], Err CallNotOpen ∷ [], None)
     ∷ []
 unfolding flatten bytes.all contains leads same item_bytes item_in_range rest_at body_from body_of item_of is_item read_item entry_of fields_of profile_bytes profile_in_range numbers_at numbers_end view_at profile_of is_profile some_matches triggers some_armed nothing_armed entries_of are_good are_possible armed_with met continued aborted respond_in early_of set_up_of open_of places_in_range number_in_range in_range_of are_fields_blank is_blank log final next find all fresh once is_sound unless store seat setup_at other_at serve damage table_step blank_slot only cons_if look first
 of_each_call = refl
@@ -267,6 +275,6 @@ on_damage = map (λ (x : Input). (fed_of (drop 1 two) (item_in x) (rest_in x) x.
 
 pub parts : (located ≡ spot.Own 0 ∷ spot.Own 1 ∷ spot.Free 2 ∷ spot.Own 63 ∷ spot.Nowhere ∷ [])
     × (are_once ≡ true ∷ false ∷ [])
-    × (on_damage ≡ Refused 2 ∷ Refused 3 ∷ Refused 3 ∷ [])
+    × (on_damage ≡ Err MalformedProfile ∷ Err DamagedTable ∷ Err DamagedTable ∷ [])
 unfolding flatten bytes.all contains leads same item_bytes item_in_range rest_at body_from body_of item_of is_item read_item entry_of fields_of profile_bytes profile_in_range numbers_at numbers_end view_at profile_of is_profile some_matches triggers some_armed nothing_armed entries_of are_good are_possible armed_with met continued aborted respond_in early_of set_up_of open_of places_in_range number_in_range in_range_of are_fields_blank is_blank log final next find all fresh once is_sound unless store seat setup_at other_at serve damage table_step blank_slot calls among is_once
 parts = (refl, refl, refl)

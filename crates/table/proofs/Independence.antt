@@ -4,10 +4,11 @@ use native.Mathlib.Omega.{arith}
 use mathlib.Core.Path.{◌≡◌, refl, ap}
 use mathlib.Core.Bool.{true}
 use mathlib.Core.List.{List, []}
-use mathlib.Core.Option.{none}
+use Rattle.std.specs.Prelude.{None}
 use mathlib.Core.Logic.{◌≢◌}
 use lib.ListN.{replicate}
 use borrow.Author.Tests.{eqb-true, eq-eqb}
+use Rattle.forms.specs.declared.refusal.Refusal.TheVariants.{DamagedTable, TableFull}
 use Rattle.table.specs.Runs.{only}
 use Rattle.table.specs.Table.{OneCall, Slots, of_call, owns, first, look, fresh, is_sound_slot, is_sound, table_step}
 use Rattle.table.specs.Independence.{Independence}
@@ -31,7 +32,7 @@ module _ (c : OneCall) (m : Slots c.Rec) (below : Promises c m) where
   fresh_valid =
       record { size = refl; each = all_replicate (is_sound_slot m) 64 blank (blank_sound c m below); single = λ k. rw (none_owned k) (omega arith) }
 
-  fresh_look : (k : ℕ) → look m k (fresh m) ≡ none
+  fresh_look : (k : ℕ) → look m k (fresh m) ≡ None
   unfolding look first fresh
   fresh_look k = ap (first m) (none_owned k)
 
@@ -45,7 +46,7 @@ module _ (c : OneCall) (m : Slots c.Rec) (below : Promises c m) where
 
   -- ---- demand 3
 
-  apart : Apart (table_step c m) alone (look m) (of_call c) (refused 6) none (Valid m)
+  apart : Apart (table_step c m) alone (look m) (of_call c) (refused TableFull) None (Valid m)
   apart =
       record {
         keeps = λ t x v. valid_after c m v (table_step_lem c m below v x);
@@ -60,9 +61,9 @@ module _ (c : OneCall) (m : Slots c.Rec) (below : Promises c m) where
   independence =
       record {
         sound = λ l. valid_sound m (invariant apart l fresh_valid);
-        never_3 = λ l. answers_have apart call own_call (λ a. a ≢ refused 3) below.room_is_not_3 below.alone_never_3 l fresh_valid;
+        never_3 = λ l. answers_have apart call own_call (λ a. a ≢ refused DamagedTable) below.room_is_not_3 below.alone_never_3 l fresh_valid;
         by_itself = λ l h. record {
-          each = each_alone_lem apart call own_call none l fresh_valid h fresh_look;
+          each = each_alone_lem apart call own_call None l fresh_valid h fresh_look;
           records = λ k. rw (fresh_look k) at (as_alone apart l fresh_valid h k).1;
         };
         alike = λ l l' h h' e. record {

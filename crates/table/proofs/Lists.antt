@@ -4,12 +4,12 @@ use native.Mathlib.Omega.{arith}
 use mathlib.Core.Path.{◌≡◌, refl, ap, ◌∙◌}
 use mathlib.Core.Bool.{Bool, true, false}
 use mathlib.Core.List.{List, [], ◌∷◌, ◌++◌}
-use mathlib.Core.Option.{Option, none, some}
+use Rattle.std.specs.Prelude.{Option, None, Some, is_none}
 use lib.ListN.{length, get_or, take, drop, set, replicate, length-append}
 use lib.Seq.{split_at, set_split}
 use Rattle.forms.proofs.ByteLaws.{and_left, and_right}
 use Rattle.table.specs.Runs.{cons_if, only}
-use Rattle.table.specs.Table.{next, find, all, is_none}
+use Rattle.table.specs.Table.{next, find, all}
 
 module _ {A : Type 0} where
   pub nil : (l : List A) → length l ≤ 0 → l ≡ []
@@ -87,14 +87,14 @@ module _ {A : Type 0} where
   -- ---- `find`: what is found
 
   abbrev pub Found : (A → Bool) → A → List A → Option ℕ → Type 0
-  Found p d t none = only p t ≡ []
-  Found p d t (some i) = (i < length t) × (p (get_or t i d) ≡ true)
+  Found p d t None = only p t ≡ []
+  Found p d t (Some i) = (i < length t) × (p (get_or t i d) ≡ true)
 
   found_next : (p : A → Bool) (d s : A) (t : List A) (b : Bool) → p s ≡ b → (o : Option ℕ) → Found p d t o → Found p d (s ∷ t) (next b o)
   unfolding next only cons_if
   found_next p d s t true e o h = (omega arith, e)
-  found_next p d s t false e none h = rw (e, h)
-  found_next p d s t false e (some i) h = (omega arith, h.1)
+  found_next p d s t false e None h = rw (e, h)
+  found_next p d s t false e (Some i) h = (omega arith, h.1)
 
   pub found : (p : A → Bool) (d : A) (t : List A) → Found p d t (find p t)
   unfolding find only
@@ -105,15 +105,15 @@ module _ {A : Type 0} where
   none_nil p d t = go (find p t) (found p d t)
     where
       go : (o : Option ℕ) → Found p d t o → is_none o ≡ true → only p t ≡ []
-      go none h e = h
-      go (some i) h e = cc
+      go None h e = h
+      go (Some i) h e = cc
 
   pub nil_none : (p : A → Bool) (d : A) (t : List A) → only p t ≡ [] → is_none (find p t) ≡ true
   nil_none p d t e = go (find p t) (found p d t)
     where
       go : (o : Option ℕ) → Found p d t o → is_none o ≡ true
-      go none h = refl
-      go (some i) h = absurd (omega (arith, only_pos p t i d d h.0 h.1, ap length e))
+      go None h = refl
+      go (Some i) h = absurd (omega (arith, only_pos p t i d d h.0 h.1, ap length e))
 
   -- ---- `all`
 

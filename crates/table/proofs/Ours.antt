@@ -4,16 +4,16 @@ use mathlib.Core.Path.{◌≡◌, refl, sym, ap, ◌∙◌}
 use mathlib.Core.Logic.{◌≢◌}
 use mathlib.Core.Bool.{Bool, true, false, not, cond, ◌&&◌, false≢true}
 use mathlib.Core.List.{List, [], ◌∷◌}
-use mathlib.Core.Option.{Option, none, some}
-use native.Mathlib.Omega.{arith}
+use Rattle.std.specs.Prelude.{Option, None, Some, Ok, Err}
 use lib.Dec.{eqb}
 use lib.ListN.{replicate}
 use Rattle.forms.specs.Bytes.{all, contains, same}
 use Rattle.forms.specs.Item.{item_bytes, item_in_range, rest_of, is_item}
 use Rattle.forms.specs.Profile.{profile_of, is_profile}
 use Rattle.forms.specs.declared.units.Tenths.{Tenths}
+use Rattle.forms.specs.Refusal.{number_of}
+use Rattle.forms.specs.declared.refusal.Refusal.TheVariants.{MalformedItem, MalformedProfile, DamagedTable}
 use Rattle.forms.proofs.ByteLaws.{and_left, and_right}
-use Rattle.call.specs.declared.answers.Answer.TheVariants.{Accepted, Refused}
 use Rattle.call.specs.Answers.{is_accepted, remains}
 use Rattle.call.specs.Kind.{is_setup}
 use Rattle.call.specs.Range.{record_in_range}
@@ -27,7 +27,7 @@ use Rattle.call.proofs.SetupLaws.{setup_opens}
 use Rattle.call.proofs.InRange.{is_left_well, respond_left, open_left}
 use Rattle.call.proofs.CallTheorems.{is_over}
 use Rattle.call.proofs.Numbers.{is_one_of, accepted_one, one_of_more, respond_numbers, respond_numbers_lem}
-use Rattle.table.specs.Types.{Item, Record, Answer, Stepped, Slot}
+use Rattle.table.specs.Types.{Item, Record, Refusal, Answer, Stepped, Slot}
 use Rattle.table.specs.Runs.{final}
 use Rattle.table.specs.Table.{refuses, goes, ends, look, unless, fresh, Done}
 use Rattle.table.specs.Slot.{blank_slot, our_slots}
@@ -43,13 +43,13 @@ pub item_fits : (i : Item) (s : List ℕ) → is_item i s ≡ true → item_in_r
 unfolding is_item
 item_fits i s h = and_right (same (item_bytes i (rest_of i.body s)) s) (item_in_range i (rest_of i.body s)) h
 
-passed : (i s p : Bool) → cond {A = Option ℕ} (not i) (some 1) (cond (s && not p) (some 2) none) ≡ none → (i ≡ true) × (s ≡ true → p ≡ true)
+passed : (i s p : Bool) → cond {A = Option Refusal} (not i) (Some MalformedItem) (cond (s && not p) (Some MalformedProfile) None) ≡ None → (i ≡ true) × (s ≡ true → p ≡ true)
 passed true s true e = (refl, λ h. refl)
 passed true true false e = (refl, λ h. cc)
 passed true false false e = (refl, λ h. cc)
 passed false s p e = (cc, λ h. cc)
 
-module _ (x : Input) (e : early x ≡ none) where
+module _ (x : Input) (e : early x ≡ None) where
   checks : (is_item (item_in x) x.item ≡ true) × (is_setup (item_in x) ≡ true → is_profile (profile_of x.profile) x.profile ≡ true)
   checks = passed (is_item (item_in x) x.item) (is_setup (item_in x)) (is_profile (profile_of x.profile) x.profile) e
 
@@ -60,8 +60,8 @@ module _ (x : Input) (e : early x ≡ none) where
 
 -- a function of it, case by case
 pub on_remains : {A B : Type 0} (f : A → B) (a : Answer) (before over next : A) → f (remains a before over next) ≡ remains a (f before) (f over) (f next)
-on_remains f (Refused n) before over next = refl
-on_remains f (Accepted o) before over next = go o.over
+on_remains f (Err n) before over next = refl
+on_remains f (Ok o) before over next = go o.over
   where
     go : (b : Bool) → f (cond b over next) ≡ cond b (f over) (f next)
     go true = refl
@@ -69,13 +69,13 @@ on_remains f (Accepted o) before over next = go o.over
 
 -- of a call that was opened: what is next
 pub open_remains : {A : Type 0} (a : Answer) (before over next : A) → (is_accepted a ≡ true) × (is_over a ≡ false) → remains a before over next ≡ next
-open_remains (Accepted o) before over next q = rw q.1
-open_remains (Refused n) before over next q = absurd (false≢true q.0)
+open_remains (Ok o) before over next q = rw q.1
+open_remains (Err n) before over next q = absurd (false≢true q.0)
 
 -- what holds of the next record, where there is one
 on_effect : (P : Record → Type 0) (a : Answer) (next : Record) → (is_accepted a ≡ true → is_over a ≡ false → P next) → OnNext P (effect_as a next)
-on_effect P (Refused n) next f = tt
-on_effect P (Accepted o) next f = by_cond (OnNext P) o.over _ _ (λ e. tt) (f refl)
+on_effect P (Err n) next f = tt
+on_effect P (Ok o) next f = by_cond (OnNext P) o.over _ _ (λ e. tt) (f refl)
 
 -- ---- in range in, in range out
 
@@ -86,16 +86,15 @@ left_in_range s t h q =
 
 -- ---- the call by itself is made of the same parts
 
-kept_so : (r : Record) (a : Answer) (next : Record) → (a, remains a (some r) none (some next)) ≡ keep our_call r (effect_as a next)
+kept_so : (r : Record) (a : Answer) (next : Record) → (a, remains a (Some r) None (Some next)) ≡ keep our_call r (effect_as a next)
 unfolding keep
-kept_so r a next = on_remains (λ k. (a, k)) a (some r) none (some next) ∙ sym (on_remains (keep our_call r) a (refuses a) (ends a) (goes a next))
+kept_so r a next = on_remains (λ k. (a, k)) a (Some r) None (Some next) ∙ sym (on_remains (keep our_call r) a (refuses a) (ends a) (goes a next))
 
--- a call by itself answers as the parts do, and its refusals are numbered 1 to 14 but 3
--- the numbers that a call by itself gives: neither 3 nor 6, which are the table's
+-- a call by itself answers as the parts do; the numbers that it gives: neither 3 nor 6, which are the table's
 abbrev alone_numbers : List ℕ
 alone_numbers = 1 ∷ 2 ∷ 4 ∷ 5 ∷ 7 ∷ 8 ∷ 9 ∷ 10 ∷ 11 ∷ 12 ∷ 13 ∷ 14 ∷ []
 
-never : (n : ℕ) (a : Answer) → contains n alone_numbers ≡ false → is_one_of alone_numbers a ≡ true → a ≢ Refused n
+never : (n : Refusal) (a : Answer) → contains (number_of n) alone_numbers ≡ false → is_one_of alone_numbers a ≡ true → a ≢ Err n
 never n a h k e = false≢true (sym h ∙ sym (ap (is_one_of alone_numbers) e) ∙ k)
 
 abbrev As : Kept our_call → Kept our_call → Type 0
@@ -107,8 +106,8 @@ module _ (x : Input) where
 
   as_other : (v : Option Record) → As (alone.other_alone v (item_in x) (rest_in x)) (other_alone our_call x v)
   unfolding other_alone all contains
-  as_other none = (refl, refl)
-  as_other (some r) = let s = respond_of r (item_in x) (rest_in x) in (kept_so r s.answer s.next, one_of_more respond_numbers alone_numbers s.answer refl (respond_numbers_lem r (item_in x) (rest_in x)))
+  as_other None = (refl, refl)
+  as_other (Some r) = let s = respond_of r (item_in x) (rest_in x) in (kept_so r s.answer s.next, one_of_more respond_numbers alone_numbers s.answer refl (respond_numbers_lem r (item_in x) (rest_in x)))
 
   module _ (o : item_in_range (item_in x) (rest_in x) ≡ true) (h : is_setup (item_in x) ≡ true) where
     abbrev opens : Stepped
@@ -116,10 +115,10 @@ module _ (x : Input) where
 
     as_setup : (v : Option Record) → profile_is true → As (alone.setup_alone v (item_in x) (rest_in x) x.profile) (setup_alone our_call x v)
     unfolding setup_alone contains
-    as_setup none p =
+    as_setup None p =
         let q = setup_opens (item_in x) (rest_in x) x.profile o h p in
-        (ap (λ k. (opens.answer, k)) (open_remains opens.answer none none (some opens.next) q), accepted_one alone_numbers opens.answer q.0)
-    as_setup (some r) p = (refl, refl)
+        (ap (λ k. (opens.answer, k)) (open_remains opens.answer None None (Some opens.next) q), accepted_one alone_numbers opens.answer q.0)
+    as_setup (Some r) p = (refl, refl)
 
   alone_as_lem : (v : Option Record) → As (alone_step v x.item x.profile) (alone_as our_call v x)
   unfolding alone_step alone_as unless serve_alone contains
@@ -133,11 +132,11 @@ module _ (x : Input) where
 
 -- ---- the promises, and what comes of them
 
-begin_in_range : (x : Input) → early x ≡ none → is_setup (item_in x) ≡ true → record_in_range (open_of (item_in x) (rest_in x) x.profile).next ≡ true
+begin_in_range : (x : Input) → early x ≡ None → is_setup (item_in x) ≡ true → record_in_range (open_of (item_in x) (rest_in x) x.profile).next ≡ true
 begin_in_range x e h =
     left_in_range (open_of (item_in x) (rest_in x) x.profile) (item_in x).time (open_left (item_in x) (rest_in x) x.profile) (setup_opens (item_in x) (rest_in x) x.profile (item_in_range_lem x e) h ((checks x e).1 h))
 
-respond_in_range : (r : Record) (x : Input) → early x ≡ none → record_in_range r ≡ true → OnNext (λ next. record_in_range next ≡ true) (our_call.respond r x)
+respond_in_range : (r : Record) (x : Input) → early x ≡ None → record_in_range r ≡ true → OnNext (λ next. record_in_range next ≡ true) (our_call.respond r x)
 respond_in_range r x e h =
     let s = respond_of r (item_in x) (rest_in x) in
     on_effect (λ next. record_in_range next ≡ true) s.answer s.next (λ a o. left_in_range s (item_in x).time (respond_left r (item_in x) (rest_in x) h (item_in_range_lem x e)) (a, o))
@@ -153,8 +152,8 @@ promises =
       begin_range = begin_in_range;
       respond_range = λ r x e h o. respond_in_range r x e o;
       alone_is = λ v x. (alone_as_lem x v).0;
-      alone_never_3 = λ v x. never 3 _ refl (alone_as_lem x v).1;
-      room_is_not_3 = λ e. absurd (let z : ◌≡◌ {A = ℕ} 6 3 = cc in omega arith);
+      alone_never_3 = λ v x. never DamagedTable _ refl (alone_as_lem x v).1;
+      room_is_not_3 = λ e. cc;
     }
 
 -- demand 3
@@ -164,7 +163,7 @@ ours = independence our_call our_slots promises
 -- what holds of each call that opens and of what an item leaves, unless the call is over, holds of each call that a run reaches
 pub our_reached : (P : Record → Type 0) → ((i : Item) (rest s : List ℕ) → is_accepted (open_of i rest s).answer ≡ true → P (open_of i rest s).next)
     → ((r : Record) → P r → (i : Item) (rest : List ℕ) → is_over (respond_of r i rest).answer ≡ false → P (respond_of r i rest).next)
-    → (l : List Input) (k : ℕ) (r : Record) → look our_slots k (final feed_step (fresh our_slots) l) ≡ some r → P r
+    → (l : List Input) (k : ℕ) (r : Record) → look our_slots k (final feed_step (fresh our_slots) l) ≡ Some r → P r
 our_reached P opened kept =
     reached our_call our_slots promises P
     (λ x e h. opened (item_in x) (rest_in x) x.profile (setup_opens (item_in x) (rest_in x) x.profile (item_in_range_lem x e) h ((checks x e).1 h)).0)

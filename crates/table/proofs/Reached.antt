@@ -4,8 +4,9 @@ use native.Mathlib.Omega.{arith}
 use mathlib.Core.Path.{◌≡◌, refl, sym, subst}
 use mathlib.Core.Bool.{Bool, true, false}
 use mathlib.Core.List.{List, [], ◌∷◌}
-use mathlib.Core.Option.{Option, none, some}
+use Rattle.std.specs.Prelude.{Option, None, Some}
 use lib.ListN.{length, get_or, set, replicate}
+use Rattle.forms.specs.declared.refusal.Refusal.{Refusal}
 use Rattle.call.proofs.Laws.{by_cond}
 use Rattle.table.specs.Runs.{cons_if, only, All, final}
 use Rattle.table.specs.Table.{Effect, refuses, goes, ends, OneCall, Slots, find, is_free, owns, first, look, fresh, unless, Done, store, seat, setup_at, other_at, serve, damage, table_step}
@@ -38,7 +39,7 @@ module _ (c : OneCall) (m : Slots c.Rec) (below : Promises c m) (P : c.Rec → T
 
   -- a slot: the record of its owner, if it has one
   abbrev Has : Slot → Type 0
-  Has s = (k : ℕ) → owner s ≡ some k → P (body s)
+  Has s = (k : ℕ) → owner s ≡ Some k → P (body s)
 
   own_has : (k : ℕ) (r : Rec) → P r → Has (own k r)
   own_has k r p j e = subst P (sym (below.body_own k r)) p
@@ -46,31 +47,31 @@ module _ (c : OneCall) (m : Slots c.Rec) (below : Promises c m) (P : c.Rec → T
   blank_has : Has blank
   blank_has k e = absurd (let z : ◌≡◌ {A = ℕ} 0 1 = cc in omega arith)
 
-  module _ (begins : (x : Item) → early x ≡ none → is_setup x ≡ true → P (begin x).1) (keeps : (r : Rec) (x : Item) → P r → OnNext P (respond r x)) where
+  module _ (begins : (x : Item) → early x ≡ None → is_setup x ≡ true → P (begin x).1) (keeps : (r : Rec) (x : Item) → P r → OnNext P (respond r x)) where
     abbrev Left : Done c m → Type 0
     Left d = All Has d.1
 
-    unless_left : (o : Option ℕ) (t : List Slot) (d : Done c m) → All Has t → (o ≡ none → Left d) → Left (unless refused o t d)
+    unless_left : (o : Option Refusal) (t : List Slot) (d : Done c m) → All Has t → (o ≡ None → Left d) → Left (unless refused o t d)
     unfolding unless
-    unless_left (some n) t d a f = a
-    unless_left none t d a f = f refl
+    unless_left (Some n) t d a f = a
+    unless_left None t d a f = f refl
 
     module _ (t : List Slot) (x : Item) (a : All Has t) where
       -- a Setup is stored in a free slot
-      setup_left : early x ≡ none → is_setup x ≡ true → (o : Option ℕ) → Left (setup_at c m t x o)
+      setup_left : early x ≡ None → is_setup x ≡ true → (o : Option ℕ) → Left (setup_at c m t x o)
       unfolding setup_at seat
-      setup_left e s (some i) = a
-      setup_left e s none = go (find (is_free m) t)
+      setup_left e s (Some i) = a
+      setup_left e s None = go (find (is_free m) t)
         where
           go : (o : Option ℕ) → Left (seat c m t x o)
-          go none = a
-          go (some i) = each_set Has t i (own (call x) (begin x).1) (own_has (call x) (begin x).1 (begins x e s)) a
+          go None = a
+          go (Some i) = each_set Has t i (own (call x) (begin x).1) (own_has (call x) (begin x).1 (begins x e s)) a
 
       -- another item in its call's
       other_left : (o : Option ℕ) → Found (owns m (call x)) blank t o → Left (other_at c m t x o)
       unfolding other_at store
-      other_left none f = a
-      other_left (some i) f = let s = get_or t i blank in go (respond (body s) x) (keeps (body s) x (each_at Has t i blank f.0 a (call x) (owner_is m (call x) (owner s) f.1)))
+      other_left None f = a
+      other_left (Some i) f = let s = get_or t i blank in go (respond (body s) x) (keeps (body s) x (each_at Has t i blank f.0 a (call x) (owner_is m (call x) (owner s) f.1)))
         where
           go : (e : Effect Answer Rec) → OnNext P e → Left (store c m t (call x) i e)
           go (refuses b) p = a
@@ -88,16 +89,16 @@ module _ (c : OneCall) (m : Slots c.Rec) (below : Promises c m) (P : c.Rec → T
     run_left [] t a = a
     run_left (x ∷ l) t a = run_left l (table_step c m t x).1 (step_left t x a)
 
-    looked : (k : ℕ) (r : Rec) (t : List Slot) → All Has t → look m k t ≡ some r → P r
+    looked : (k : ℕ) (r : Rec) (t : List Slot) → All Has t → look m k t ≡ Some r → P r
     unfolding look only first cons_if
     looked k r [] a = λ e. absurd (let z : ◌≡◌ {A = ℕ} 0 1 = cc in omega arith)
     looked k r (s ∷ t) a = go (owns m k s) refl (looked k r t a.1)
       where
-        go : (b : Bool) → owns m k s ≡ b → (look m k t ≡ some r → P r) → first m (cons_if b s (only (owns m k) t)) ≡ some r → P r
+        go : (b : Bool) → owns m k s ≡ b → (look m k t ≡ Some r → P r) → first m (cons_if b s (only (owns m k) t)) ≡ Some r → P r
         go true o f e = let same : body s ≡ r = cc in subst P same (a.0 k (owner_is m k (owner s) o))
         go false o f e = f e
 
     -- each call that a run reaches
-    pub reached : (l : List Item) (k : ℕ) (r : Rec) → look m k (final (table_step c m) (fresh m) l) ≡ some r → P r
+    pub reached : (l : List Item) (k : ℕ) (r : Rec) → look m k (final (table_step c m) (fresh m) l) ≡ Some r → P r
     unfolding fresh
     reached l k r = looked k r _ (run_left l (fresh m) (each_replicate Has 64 blank blank_has))

@@ -4,13 +4,13 @@ use native.Mathlib.Omega.{arith}
 use mathlib.Core.Path.{◌≡◌, refl, ap, ◌∙◌}
 use mathlib.Core.Bool.{Bool, true, false, ◌&&◌}
 use mathlib.Core.List.{List, [], ◌∷◌}
-use mathlib.Core.Option.{Option, none, some}
+use Rattle.std.specs.Prelude.{Option, None, Some, is_none}
 use lib.Dec.{eqb}
 use lib.ListN.{length, get_or, set, length-set}
 use borrow.Author.Tests.{eqb-true, eq-eqb}
 use Rattle.forms.proofs.ByteLaws.{and_left, and_right}
 use Rattle.table.specs.Runs.{cons_if, only}
-use Rattle.table.specs.Table.{Slots, all, is_none, is_call, is_free, owns, first, look, is_sound_slot, sound_as, absent, once, is_sound}
+use Rattle.table.specs.Table.{Slots, all, is_call, is_free, owns, first, look, is_sound_slot, sound_as, absent, once, is_sound}
 use Rattle.table.proofs.Lists.{only_one, cons_if_length, none_nil, nil_none, nil, all_at, all_set, Found, only_set, only_set_other}
 
 module _ {Rec : Type 0} (m : Slots Rec) where
@@ -29,8 +29,8 @@ module _ {Rec : Type 0} (m : Slots Rec) where
   -- a slot with the owner o, put in front of t
   once_cons : (t : List Slot) (s : Slot) (o : Option ℕ) (k : ℕ) → absent m o t ≡ true → length (slots_of k t) ≤ 1 → length (cons_if (is_call k o) s (slots_of k t)) ≤ 1
   unfolding cons_if
-  once_cons t s none k e h = h
-  once_cons t s (some j) k e h = go (eqb j k) refl
+  once_cons t s None k e h = h
+  once_cons t s (Some j) k e h = go (eqb j k) refl
     where
       go : (b : Bool) → eqb j k ≡ b → length (cons_if (eqb j k) s (slots_of k t)) ≤ 1
       go true q = rw (q, ← eqb-true j k q, none_nil (owns m j) s t e) (omega arith)
@@ -44,8 +44,8 @@ module _ {Rec : Type 0} (m : Slots Rec) where
 
   cons_once : (t : List Slot) (s : Slot) (o : Option ℕ) → ((k : ℕ) → length (cons_if (is_call k o) s (slots_of k t)) ≤ 1) → absent m o t ≡ true
   unfolding cons_if
-  cons_once t s none h = refl
-  cons_once t s (some k) h =
+  cons_once t s None h = refl
+  cons_once t s (Some k) h =
       nil_none (owns m k) s t (nil (slots_of k t) (omega (arith, rw (eq-eqb k k refl) at (h k))))
 
   single_once : (t : List Slot) → ((k : ℕ) → length (slots_of k t) ≤ 1) → once m t ≡ true
@@ -73,11 +73,11 @@ module _ {Rec : Type 0} (m : Slots Rec) where
     pub near : (j : ℕ) → eqb k j ≡ false → owns m j s ≡ false
     pub its : first m (slots_of k (s ∷ [])) ≡ v
 
-  pub holds_some : (k : ℕ) (s : Slot) → owner s ≡ some k → Holds k (some (body s)) s
+  pub holds_some : (k : ℕ) (s : Slot) → owner s ≡ Some k → Holds k (Some (body s)) s
   unfolding first only cons_if
   holds_some k s e = record { near = λ j f. rw e f; its = rw e (rw (eq-eqb k k refl)) }
 
-  pub holds_none : (k : ℕ) (s : Slot) → owner s ≡ none → Holds k none s
+  pub holds_none : (k : ℕ) (s : Slot) → owner s ≡ None → Holds k None s
   unfolding first only cons_if
   holds_none k s e = record { near = λ j f. rw e; its = rw e }
 
@@ -87,21 +87,21 @@ module _ {Rec : Type 0} (m : Slots Rec) where
     pub holds : Holds k v (get_or t i blank)
     pub lone : length (slots_of k t) ≤ length (slots_of k (get_or t i blank ∷ []))
 
-  pub owner_is : (k : ℕ) (o : Option ℕ) → is_call k o ≡ true → o ≡ some k
-  owner_is k none e = cc
-  owner_is k (some j) e = ap some (eqb-true j k e)
+  pub owner_is : (k : ℕ) (o : Option ℕ) → is_call k o ≡ true → o ≡ Some k
+  owner_is k None e = cc
+  owner_is k (Some j) e = ap Some (eqb-true j k e)
 
-  owner_none : (o : Option ℕ) → is_none o ≡ true → o ≡ none
-  owner_none none e = refl
-  owner_none (some j) e = cc
+  owner_none : (o : Option ℕ) → is_none o ≡ true → o ≡ None
+  owner_none None e = refl
+  owner_none (Some j) e = cc
 
-  pub spot_own : {t : List Slot} → Valid t → (k i : ℕ) → Found (owns m k) blank t (some i) → Spot t k i (some (body (get_or t i blank)))
+  pub spot_own : {t : List Slot} → Valid t → (k i : ℕ) → Found (owns m k) blank t (Some i) → Spot t k i (Some (body (get_or t i blank)))
   unfolding only cons_if
   spot_own {t} v k i f =
       let s = get_or t i blank in
       record { inside = f.0; holds = holds_some k s (owner_is k (owner s) f.1); lone = rw f.1 (v.single k) }
 
-  pub spot_free : (t : List Slot) (k i : ℕ) → Found (owns m k) blank t none → Found (is_free m) blank t (some i) → Spot t k i none
+  pub spot_free : (t : List Slot) (k i : ℕ) → Found (owns m k) blank t None → Found (is_free m) blank t (Some i) → Spot t k i None
   spot_free t k i n f =
       let s = get_or t i blank in
       record { inside = f.0; holds = holds_none k s (owner_none (owner s) f.1); lone = rw n (omega arith) }
@@ -137,17 +137,17 @@ module _ {Rec : Type 0} (m : Slots Rec) where
   -- ---- what is read at the place where call k is found
 
   abbrev pub read : List Slot → Option ℕ → Option Rec
-  read t none = none
-  read t (some i) = some (body (get_or t i blank))
+  read t None = None
+  read t (Some i) = Some (body (get_or t i blank))
 
   pub look_read : {t : List Slot} → Valid t → (k : ℕ) (o : Option ℕ) → Found (owns m k) blank t o → look m k t ≡ read t o
   unfolding look first
-  look_read {t} w k none f = ap (first m) f
-  look_read {t} w k (some i) f = look_was (spot_own w k i f)
+  look_read {t} w k None f = ap (first m) f
+  look_read {t} w k (Some i) f = look_was (spot_own w k i f)
 
   used_range : (s : Slot) (k : ℕ) (o : Option ℕ) → is_call k o ≡ true → sound_as m o s ≡ true → in_range (body s) ≡ true
-  used_range s k none e h = cc
-  used_range s k (some j) e h = h
+  used_range s k None e h = cc
+  used_range s k (Some j) e h = h
 
-  pub read_range : {t : List Slot} → Valid t → (k i : ℕ) → Found (owns m k) blank t (some i) → in_range (body (get_or t i blank)) ≡ true
+  pub read_range : {t : List Slot} → Valid t → (k i : ℕ) → Found (owns m k) blank t (Some i) → in_range (body (get_or t i blank)) ≡ true
   read_range {t} w k i f = used_range (get_or t i blank) k (owner (get_or t i blank)) f.1 (all_at (is_sound_slot m) t i blank f.0 w.each)

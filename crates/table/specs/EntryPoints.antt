@@ -1,27 +1,15 @@
 -- The entry points: each public function that can refuse, of every layer, and the numbers that it can give. (Demand 1: "Every entry point answers, or gives one of document 01's numbered refusals." 15 is T-02's.)
-use Rattle.std.specs.Prelude.{ℕ, true, false, List, [], ◌∷◌, ◌≡◌}
-use Rattle.std.proofs.Math.Option.{Option, none, some}
+use Rattle.std.specs.Prelude.{ℕ, true, false, List, [], ◌∷◌, ◌≡◌, Option, None, Some, Result, Ok, Err}
 use Rattle.forms.specs.Units.{period_of, timer_of}
 use Rattle.forms.specs.Item.{read_item, read_item_at}
 use Rattle.forms.specs.Write.{written}
 use Rattle.forms.specs.Profile.{read_profile}
 use Rattle.forms.specs.Feeder.{feed_of as feeder_of}
-use Rattle.forms.specs.declared.units.Period.{Period}
-use Rattle.forms.specs.declared.units.Period.TheVariants as P
-use Rattle.forms.specs.declared.units.Timer.{Timer}
-use Rattle.forms.specs.declared.units.Timer.TheVariants as T
-use Rattle.forms.specs.declared.item.ReadItem.TheVariants as R
-use Rattle.forms.specs.declared.write.Written.{Written}
-use Rattle.forms.specs.declared.write.Written.TheVariants as W
-use Rattle.forms.specs.declared.profile.ReadProfile.TheVariants as Q
+use Rattle.forms.specs.Refusal.{number_of}
 use Rattle.forms.specs.declared.feeder.Feeder.{Feeder}
-use Rattle.forms.specs.declared.feeder.Completed.{Completed}
-use Rattle.forms.specs.declared.feeder.Completed.TheVariants as O
-use Rattle.call.specs.declared.setup.Early.TheVariants as E
-use Rattle.call.specs.declared.answers.Answer.TheVariants.{Accepted, Refused}
 use Rattle.call.specs.Step.{respond_of, step_of}
 use Rattle.call.specs.Setup.{early_of, set_up_of, open_of}
-use Rattle.table.specs.Types.{Item, ReadItem, ReadProfile, Record, Answer, Opening, Early, Slot}
+use Rattle.table.specs.Types.{Item, Refusal, Record, Opening, Slot}
 use Rattle.table.specs.Feed.{is_sound_table, feed_of, feed_item_of}
 
 -- ---- an entry point, with what it is handed. (`feeder::take` says 15 by a variant of its own, `Closed`; `answers::refuse` gives the number that it is handed.)
@@ -67,53 +55,23 @@ numbers (feed_sound t h item profile) = 1 ∷ 2 ∷ 4 ∷ 5 ∷ 6 ∷ 7 ∷ 8 �
 
 -- ---- the refusal that it gives, if it gives one: what its promise says, and the number in it
 
-abbrev pub in_period : Period → Option ℕ
-in_period (P.Of p) = none
-in_period (P.Refused n) = some n
-
-abbrev pub in_timer : Timer → Option ℕ
-in_timer (T.Of t) = none
-in_timer (T.Refused n) = some n
-
-abbrev pub in_read_item : ReadItem → Option ℕ
-in_read_item (R.Item i a) = none
-in_read_item (R.Refused n) = some n
-
-abbrev pub in_written : Written → Option ℕ
-in_written (W.Length n) = none
-in_written (W.Refused n) = some n
-
-abbrev pub in_read_profile : ReadProfile → Option ℕ
-in_read_profile (Q.Profile p) = none
-in_read_profile (Q.Refused n) = some n
-
-abbrev pub in_completed : Completed → Option ℕ
-in_completed (O.Item i a) = none
-in_completed (O.Refused n) = some n
-in_completed O.UsedUp = none
-
-abbrev pub in_early : Early → Option ℕ
-in_early (E.Refused n) = some n
-in_early (E.Setup o) = none
-in_early E.Other = none
-
-abbrev pub in_answer : Answer → Option ℕ
-in_answer (Accepted o) = none
-in_answer (Refused n) = some n
+abbrev pub in_result : {A : Type 0} → Result A Refusal → Option ℕ
+in_result (Ok a) = None
+in_result (Err n) = Some (number_of n)
 
 abbrev pub refusal : EntryPoint → Option ℕ
-refusal (period n) = in_period (period_of n)
-refusal (timer n) = in_timer (timer_of n)
-refusal (reads_item s) = in_read_item (read_item s)
-refusal (reads_item_at s a) = in_read_item (read_item_at s a)
-refusal (write_item i rest d) = in_written (written i rest d)
-refusal (reads_profile s) = in_read_profile (read_profile s)
-refusal (feed_chunk f c) = in_completed (feeder_of f c).completed
-refusal (says_early i rest s) = in_early (early_of false i rest s)
-refusal (set_up i rest o) = in_answer (set_up_of i rest o).answer
-refusal (open_call i rest s) = in_answer (open_of i rest s).answer
-refusal (respond r i rest) = in_answer (respond_of r i rest).answer
-refusal (step r i rest) = in_answer (step_of r i rest).answer
-refusal (feed t item profile) = in_answer (feed_of t item profile).0
-refusal (feed_item t i rest profile) = in_answer (feed_item_of t i rest profile).0
-refusal (feed_sound t h item profile) = in_answer (feed_of t item profile).0
+refusal (period n) = in_result (period_of n)
+refusal (timer n) = in_result (timer_of n)
+refusal (reads_item s) = in_result (read_item s)
+refusal (reads_item_at s a) = in_result (read_item_at s a)
+refusal (write_item i rest d) = in_result (written i rest d)
+refusal (reads_profile s) = in_result (read_profile s)
+refusal (feed_chunk f c) = in_result (feeder_of f c).completed
+refusal (says_early i rest s) = in_result (early_of false i rest s)
+refusal (set_up i rest o) = in_result (set_up_of i rest o).answer
+refusal (open_call i rest s) = in_result (open_of i rest s).answer
+refusal (respond r i rest) = in_result (respond_of r i rest).answer
+refusal (step r i rest) = in_result (step_of r i rest).answer
+refusal (feed t item profile) = in_result (feed_of t item profile).0
+refusal (feed_item t i rest profile) = in_result (feed_item_of t i rest profile).0
+refusal (feed_sound t h item profile) = in_result (feed_of t item profile).0

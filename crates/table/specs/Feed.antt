@@ -1,15 +1,14 @@
 -- What `feed` answers and leaves: the table of `Table.antt`, over the layer `call` and the bytes that are handed in.
-use Rattle.std.specs.Prelude.{ℕ, Bool, cond, List, [], ◌∷◌, ◌≡◌}
-use Rattle.std.proofs.Math.Option.{Option, none, some}
+use Rattle.std.specs.Prelude.{ℕ, Bool, cond, List, [], ◌∷◌, ◌≡◌, Option, None, Some, Err}
 use Rattle.forms.specs.Item.{item_bytes, item_in_range, item_of, rest_of}
-use Rattle.call.specs.declared.answers.Answer.TheVariants.{Refused}
+use Rattle.forms.specs.declared.refusal.Refusal.TheVariants.{MalformedItem}
 use Rattle.call.specs.Answers.{Row, remains}
 use Rattle.call.specs.Kind.{is_setup}
 use Rattle.call.specs.Refusals.{early_rows_in}
 use Rattle.call.specs.Step.{respond_of}
 use Rattle.call.specs.Setup.{open_of}
 use Rattle.call.specs.Alone.{Input, alone_step}
-use Rattle.table.specs.Types.{Item, Record, Answer, Slot}
+use Rattle.table.specs.Types.{Item, Record, Refusal, Answer, Slot}
 use Rattle.table.specs.Table.{Effect, refuses, goes, ends, OneCall, is_sound, table_step}
 use Rattle.table.specs.Slot.{our_slots}
 
@@ -21,12 +20,12 @@ abbrev pub rest_in : Input → List ℕ
 rest_in x = rest_of (item_in x).body x.item
 
 -- "Checked in this order; the first that applies is given and none otherwise."
-abbrev pub first_row : List Row → Option ℕ
-first_row [] = none
-first_row (x ∷ xs) = cond x.applies (some x.number) (first_row xs)
+abbrev pub first_row : List Row → Option Refusal
+first_row [] = None
+first_row (x ∷ xs) = cond x.applies (Some x.refusal) (first_row xs)
 
 -- the refusals that come before the table is looked at: `call`'s one list of them
-abbrev pub early : Input → Option ℕ
+abbrev pub early : Input → Option Refusal
 early x = first_row (early_rows_in x.item x.profile)
 
 -- what `call` made of an item
@@ -39,7 +38,7 @@ our_call =
       Item = Input;
       Rec = Record;
       Answer = Answer;
-      refused = Refused;
+      refused = λ n. Err n;
       call = λ x. (item_in x).call;
       early = early;
       is_setup = λ x. is_setup (item_in x);
@@ -61,7 +60,7 @@ feed_of t item profile = feed_step t (record { item = item; profile = profile })
 
 -- an item that is handed in as a value, with its digits or entries, is fed as its written form is; out of range it is 1
 abbrev pub feed_item_of : List Slot → Item → List ℕ → List ℕ → Answer × List Slot
-feed_item_of t i rest profile = cond (item_in_range i rest) (feed_of t (item_bytes i rest) profile) (Refused 1, t)
+feed_item_of t i rest profile = cond (item_in_range i rest) (feed_of t (item_bytes i rest) profile) (Err MalformedItem, t)
 
 -- ---- a turn of `feed`
 

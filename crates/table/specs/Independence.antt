@@ -1,6 +1,6 @@
 -- Demand 3, calls do not touch each other: what it says of every list of items, over any layer of one call. (`Demands.antt` says it of what `feed` does.)
-use Rattle.std.specs.Prelude.{ℕ, true, List, [], ◌≡◌, ◌≢◌}
-use Rattle.std.proofs.Math.Option.{none}
+use Rattle.std.specs.Prelude.{ℕ, true, List, [], ◌≡◌, ◌≢◌, None}
+use Rattle.forms.specs.declared.refusal.Refusal.TheVariants.{DamagedTable, TableFull}
 use Rattle.table.specs.Runs.{only, All, log, final, each_alone}
 use Rattle.table.specs.Table.{OneCall, Slots, of_call, look, fresh, is_sound, table_step}
 
@@ -31,13 +31,13 @@ module _ (c : OneCall) (m : Slots c.Rec) where
 
   -- "none is refused for room"; "refused for room means 6"
   abbrev pub Seated : List Item → Type 0
-  Seated l = All (λ e. e.1 ≢ refused 6) (table_log l)
+  Seated l = All (λ e. e.1 ≢ refused TableFull) (table_log l)
 
   -- "each item gets exactly the answer that document 01's call by itself gives, fed only that call's items in their order";
   -- "and after the list each call's record equals the one it has by itself"
   pub record AsAlone (l : List Item) : Type 0 where
-    pub each : table_log l ≡ each_alone alone (of_call c) call none [] l
-    pub records : (k : ℕ) → look m k (table_after l) ≡ final alone none (items_of c k l)
+    pub each : table_log l ≡ each_alone alone (of_call c) call None [] l
+    pub records : (k : ℕ) → look m k (table_after l) ≡ final alone None (items_of c k l)
 
   -- "alike in each item's answer and in each call's final record"
   pub record Alike (l l' : List Item) : Type 0 where
@@ -48,6 +48,6 @@ module _ (c : OneCall) (m : Slots c.Rec) where
   -- two such lists with "those of any one call in the same order" are alike, "whatever the order between calls"
   pub record Independence : Type 0 where
     pub sound : (l : List Item) → is_sound m (table_after l) ≡ true
-    pub never_3 : (l : List Item) → All (λ e. e.1 ≢ refused 3) (table_log l)
+    pub never_3 : (l : List Item) → All (λ e. e.1 ≢ refused DamagedTable) (table_log l)
     pub by_itself : (l : List Item) → Seated l → AsAlone l
     pub alike : (l l' : List Item) → Seated l → Seated l' → ((k : ℕ) → items_of c k l ≡ items_of c k l') → Alike l l'

@@ -1,12 +1,10 @@
 -- Document 01, The listing program: the text of a line, from an item's number and the values of its answer (`call`, Answers.antt), byte by byte.
-use Rattle.std.specs.Prelude.{ℕ, zero, suc, ◌+◌, ◌/◌, ◌%◌, ◌≤◌, Bool, true, false, cond, List, [], ◌∷◌, ◌++◌, ◌≡◌, leb, ltb, length}
+use Rattle.std.specs.Prelude.{ℕ, zero, suc, ◌+◌, ◌/◌, ◌%◌, ◌≤◌, Bool, true, false, cond, List, [], ◌∷◌, ◌++◌, ◌≡◌, leb, ltb, length, Option, None, Some}
 use Prim.Native.Char.{code}
 use Prim.Native.String.{String, [] as end, ◌∷◌ as ◌then◌}
-use Rattle.std.proofs.Math.Option.{Option, none, some}
 use Rattle.std.proofs.lemmas.List.Edits.{sets}
 use Rattle.call.specs.Answers.{Pair, EventReport, Told, Values, refusal, accepted}
-use Rattle.table.specs.declared.line.Printed.{Printed}
-use Rattle.table.specs.declared.line.Printed.TheVariants.{NoRoom, Next}
+use Rattle.table.specs.declared.line.Text.{Text}
 
 -- the bytes of a text in ASCII
 abbrev pub text : String → List ℕ
@@ -28,8 +26,8 @@ decimal n = digits n (ltb n 10) n
 
 -- the name of a field and its number, or nothing
 abbrev pub field : List ℕ → Option ℕ → List ℕ
-field name none = []
-field name (some n) = name ++ decimal n
+field name None = []
+field name (Some n) = name ++ decimal n
 
 -- "none", "monitor" or "control"
 abbrev pub word_text : String → List ℕ
@@ -37,8 +35,8 @@ word_text word = text " " ++ text word
 
 -- the point of suspension: its number alone
 abbrev pub suspended_text : Option Pair → List ℕ
-suspended_text none = text " -"
-suspended_text (some q) = text " " ++ decimal q.point
+suspended_text None = text " -"
+suspended_text (Some q) = text " " ++ decimal q.point
 
 -- "`n` marks a notification"
 abbrev pub mark_of : Bool → List ℕ
@@ -49,8 +47,8 @@ abbrev pub pair_text : Pair → List ℕ
 pair_text q = decimal q.point ++ (text "/" ++ decimal q.leg)
 
 abbrev pub event_text : Option EventReport → List ℕ
-event_text none = []
-event_text (some e) = mark_of e.interrupting ++ pair_text e.met
+event_text None = []
+event_text (Some e) = mark_of e.interrupting ++ pair_text e.met
 
 -- "`c2=123` a charge of leg 2"; "Reports come in this order: event, charge of leg 1, charge of leg 2."
 abbrev pub reports_text : Option EventReport → Option ℕ → Option ℕ → List ℕ
@@ -84,16 +82,17 @@ longest = 128
 
 -- Where the buffer d has room for the longest line from place i on, the line is stored there and all else stays as it was; the answer is the place after it.
 -- Else nothing is stored, and the answer says so.
-unfoldable pub printed : List ℕ → List ℕ → ℕ → Printed × List ℕ
-printed line d i = cond (leb (i + longest) (length d)) (Next (i + length line), sets d i line) (NoRoom, d)
+unfoldable pub printed : List ℕ → List ℕ → ℕ → Option ℕ × List ℕ
+printed line d i = cond (leb (i + longest) (length d)) (Some (i + length line), sets d i line) (None, d)
 
--- where the text goes on after a line at place i
-abbrev pub place_after : Printed → ℕ → ℕ
-place_after NoRoom i = i
-place_after (Next k) i = k
+-- n more bytes fit into the buffer
+abbrev pub HasRoom : ℕ → Text → Type 0
+HasRoom n s = s.at + n ≤ length s.out.now
 
--- what the functions below a line promise: t has at most n bytes and is stored from place i on, and k is the place after it
-pub record Stored (n : ℕ) (t d : List ℕ) (i : ℕ) (e : List ℕ) (k : ℕ) : Type 0 where
+-- what the methods of a text promise: t has at most n bytes and is stored in the same buffer from the text's place on, and the next place is behind it
+pub record Puts (n : ℕ) (t : List ℕ) (s e : Text) : Type 0 where
+  pub same : e.out.ghost_name ≡ s.out.ghost_name
+  pub size : length e.out.now ≡ length s.out.now
   pub most : length t ≤ n
-  pub place : k ≡ i + length t
-  pub bytes : e ≡ sets d i t
+  pub place : e.at ≡ s.at + length t
+  pub bytes : e.out.now ≡ sets s.out.now s.at t

@@ -1,27 +1,21 @@
 -- Document 01, The call table: the slots of the table. "each free or owned by one call"; "A free record is blank".
-use Rattle.std.specs.Prelude.{ℕ}
-use Rattle.std.proofs.Math.Option.{Option, none, some}
+use Rattle.std.specs.Prelude.{ℕ, None, Some}
 use Rattle.call.specs.Record.{blank}
 use Rattle.call.specs.Range.{record_in_range, is_blank}
-use Rattle.table.specs.Types.{Record, Owner, Slot}
-use Rattle.table.specs.declared.slot.Owner.TheVariants as owner
+use Rattle.table.specs.Types.{Record, Slot}
 use Rattle.table.specs.Table.{Slots}
 
-abbrev pub owner_of : Owner → Option ℕ
-owner_of owner.Free = none
-owner_of (owner.Call k) = some k
-
 abbrev pub owned_by : ℕ → Record → Slot
-owned_by k r = record { owner = owner.Call k; body = r }
+owned_by k r = record { owner = Some k; body = r }
 
 unfoldable pub blank_slot : Slot
-blank_slot = record { owner = owner.Free; body = blank }
+blank_slot = record { owner = None; body = blank }
 
 abbrev pub our_slots : Slots Record
 our_slots =
     record {
       Slot = Slot;
-      owner = λ s. owner_of s.owner;
+      owner = λ s. s.owner;
       body = λ s. s.body;
       own = owned_by;
       blank = blank_slot;

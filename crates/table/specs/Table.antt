@@ -1,6 +1,7 @@
 -- Document 01, The call table and Numbered refusals 3 to 6: 64 slots that serve many calls, over any layer of one call. (`Feed.antt` puts ours in.)
-use Rattle.std.specs.Prelude.{ℕ, suc, Bool, true, false, cond, ◌&&◌, List, [], ◌∷◌, eqb, length, get_or, set, replicate}
-use Rattle.std.proofs.Math.Option.{Option, none, some}
+use Rattle.std.specs.Prelude.{ℕ, suc, Bool, true, false, cond, ◌&&◌, List, [], ◌∷◌, eqb, length, get_or, set, replicate, Option, None, Some, is_none}
+use Rattle.forms.specs.declared.refusal.Refusal.{Refusal}
+use Rattle.forms.specs.declared.refusal.Refusal.TheVariants.{DamagedTable, CallNotOpen, CallOpen, TableFull}
 use Rattle.table.specs.Runs.{only}
 
 -- ---- what the layer of one call gives
@@ -16,9 +17,9 @@ pub record OneCall : Type 1 where
   pub Item : Type 0
   pub Rec : Type 0
   pub Answer : Type 0
-  pub refused : ℕ → Answer
+  pub refused : Refusal → Answer
   pub call : Item → ℕ
-  pub early : Item → Option ℕ
+  pub early : Item → Option Refusal
   pub is_setup : Item → Bool
   pub begin : Item → Answer × Rec
   pub respond : Rec → Item → Effect Answer Rec
@@ -40,28 +41,19 @@ pub record Slots (Rec : Type 0) : Type 1 where
   pub is_blank : Slot → Bool
   pub in_range : Rec → Bool
 
-abbrev pub is_none : {A : Type 0} → Option A → Bool
-is_none none = true
-is_none (some a) = false
-
 abbrev pub is_call : ℕ → Option ℕ → Bool
-is_call k none = false
-is_call k (some j) = eqb j k
+is_call k None = false
+is_call k (Some j) = eqb j k
 
 -- the place of the first member that passes a test
 unfoldable pub next : Bool → Option ℕ → Option ℕ
-next true i = some 0
-next false none = none
-next false (some i) = some (suc i)
+next true i = Some 0
+next false None = None
+next false (Some i) = Some (suc i)
 
 unfoldable pub find : {A : Type 0} → (A → Bool) → List A → Option ℕ
-find p [] = none
+find p [] = None
 find p (s ∷ t) = next (p s) (find p t)
-
--- the place that was found, or else d
-abbrev pub place_or : ℕ → Option ℕ → ℕ
-place_or d none = d
-place_or d (some i) = i
 
 -- all members pass a test
 unfoldable pub all : {A : Type 0} → (A → Bool) → List A → Bool
@@ -79,8 +71,8 @@ module _ {Rec : Type 0} (m : Slots Rec) where
 
   -- "A call's record in the table is the one it owns, in any slot, its owner left out, or nothing."
   unfoldable pub first : List Slot → Option Rec
-  first [] = none
-  first (s ∷ t) = some (body s)
+  first [] = None
+  first (s ∷ t) = Some (body s)
 
   unfoldable pub look : ℕ → List Slot → Option Rec
   look k t = first (only (owns k) t)
@@ -91,15 +83,15 @@ module _ {Rec : Type 0} (m : Slots Rec) where
 
   -- a sound table is none of what refusal 3 lists: "table not 64 records, a field out of range, a free record not blank, start later than last time, or one call twice"
   abbrev pub sound_as : Option ℕ → Slot → Bool
-  sound_as none s = is_blank s
-  sound_as (some k) s = in_range (body s)
+  sound_as None s = is_blank s
+  sound_as (Some k) s = in_range (body s)
 
   abbrev pub is_sound_slot : Slot → Bool
   is_sound_slot s = sound_as (owner s) s
 
   abbrev pub absent : Option ℕ → List Slot → Bool
-  absent none t = true
-  absent (some k) t = is_none (find (owns k) t)
+  absent None t = true
+  absent (Some k) t = is_none (find (owns k) t)
 
   unfoldable pub once : List Slot → Bool
   once [] = true
@@ -111,9 +103,9 @@ module _ {Rec : Type 0} (m : Slots Rec) where
 -- ---- an item on the table: the answer, and the whole table afterwards
 
 -- "the first that applies is given", "Each returns its number alone and changes nothing."
-unfoldable pub unless : {A S : Type 0} → (ℕ → A) → Option ℕ → S → A × S → A × S
-unless refused (some n) s d = (refused n, s)
-unless refused none s d = d
+unfoldable pub unless : {A S : Type 0} → (Refusal → A) → Option Refusal → S → A × S → A × S
+unless refused (Some n) s d = (refused n, s)
+unless refused None s d = d
 
 module _ (c : OneCall) (m : Slots c.Rec) where
   open c use {Item, Rec, Answer, refused, call, early, is_setup, begin, respond}
@@ -130,25 +122,26 @@ module _ (c : OneCall) (m : Slots c.Rec) where
 
   -- "Setup takes the lowest free slot"; refusal 6: "64 open (Setup)"
   unfoldable pub seat : List Slot → Item → Option ℕ → Done
-  seat t x none = (refused 6, t)
-  seat t x (some i) = ((begin x).0, set t i (own (call x) (begin x).1))
+  seat t x None = (refused TableFull, t)
+  seat t x (Some i) = ((begin x).0, set t i (own (call x) (begin x).1))
 
   -- refusal 5: "call already open (Setup)"
   unfoldable pub setup_at : List Slot → Item → Option ℕ → Done
-  setup_at t x none = seat t x (find (is_free m) t)
-  setup_at t x (some i) = (refused 5, t)
+  setup_at t x None = seat t x (find (is_free m) t)
+  setup_at t x (Some i) = (refused CallOpen, t)
 
   -- refusal 4: "call not open (all but Setup)"
   unfoldable pub other_at : List Slot → Item → Option ℕ → Done
-  other_at t x none = (refused 4, t)
-  other_at t x (some i) = store t (call x) i (respond (body (get_or t i blank)) x)
+  other_at t x None = (refused CallNotOpen, t)
+  other_at t x (Some i) = store t (call x) i (respond (body (get_or t i blank)) x)
 
   -- given the slot of the item's call, if it has one
   unfoldable pub serve : List Slot → Item → Option ℕ → Done
   serve t x i = cond (is_setup x) (setup_at t x i) (other_at t x i)
 
-  unfoldable pub damage : List Slot → Option ℕ
-  damage t = cond (is_sound m t) none (some 3)
+  -- refusal 3, of a table that is not sound
+  unfoldable pub damage : List Slot → Option Refusal
+  damage t = cond (is_sound m t) None (Some DamagedTable)
 
   unfoldable pub table_step : List Slot → Item → Done
   table_step t x = unless refused (early x) t (unless refused (damage t) t (serve t x (find (owns m (call x)) t)))

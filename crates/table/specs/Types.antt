@@ -1,12 +1,9 @@
 -- The types that the code declares, here and below, under one name for the definitions.
 pub use Rattle.forms.specs.declared.item.Item.{Item}
-pub use Rattle.forms.specs.declared.item.ReadItem.{ReadItem}
-pub use Rattle.forms.specs.declared.profile.ReadProfile.{ReadProfile}
+pub use Rattle.forms.specs.declared.refusal.Refusal.{Refusal}
 pub use Rattle.call.specs.declared.record.Record.{Record}
-pub use Rattle.call.specs.declared.answers.Answer.{Answer}
 pub use Rattle.call.specs.declared.answers.Stepped.{Stepped}
-pub use Rattle.call.specs.declared.setup.Early.{Early}
 pub use Rattle.call.specs.declared.setup.Opening.{Opening}
-pub use Rattle.table.specs.declared.slot.Owner.{Owner}
+pub use Rattle.call.specs.Types.{Answer, Early}
 pub use Rattle.table.specs.declared.slot.Slot.{Slot}
 pub use Rattle.table.specs.declared.lookup.Spot.{Spot}

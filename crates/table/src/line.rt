@@ -1,201 +1,165 @@
 // The text of a listing line (document 01, The listing program).
-ghost use Rattle.std.specs.Prelude.{◌≡◌, ◌++◌, ◌+◌, ◌≤◌, leb, length};
-ghost use Rattle.call.specs.Answers.{relationship_word, pair_of, suspended_at, event_of, figure_of, deadline_of, told_of, values_of};
-ghost use Rattle.table.specs.Line.{Stored, decimal, field, text, word_text, suspended_text, pair_text, event_text, reports_text, over_text, told_text, values_text, line_of, header as header_text, longest, printed, place_after};
+ghost use Rattle.std.specs.Prelude.{◌≡◌, ◌++◌, ◌+◌, ◌≤◌, leb, length, unwrap_or};
+ghost use Rattle.call.specs.Answers.{relationship_word, pair_of, suspended_at, event_of, tenths_in, told_of, values_of};
+ghost use Rattle.table.specs.Line.{HasRoom, Puts, decimal, field, text, word_text, suspended_text, pair_text, event_text, reports_text, over_text, told_text, values_text, line_of, header as header_text, longest, printed};
 
 use call::answers::*;
-use call::charging::ChargeReport;
 use call::points::Point;
 use call::relationship::Relationship;
-use forms::{bytes, item};
+use forms::bytes;
+use forms::units::Tenths;
+use itoa::{Buffer, Integer};
 
 // No line has more bytes.
 pub const LONGEST: usize = 128;
 
-// Where a line was stored: the next place, behind it. Where there is no room for the longest line nothing is stored.
-#[derive(Clone, Copy)]
-pub enum Printed {
-    NoRoom,
-    Next(usize),
+// The lent buffer, and the place in it where the text goes on.
+// Not by Display: `line` promises its bytes whatever comes, and a clause on `fmt` says them only of an `Ok`. What room each part asks for is its own number, so it is a clause and no invariant.
+#[derive(Drop)]
+struct Text<'a> {
+    out: &'a mut [u8],
+    at: usize,
 }
 
-// Stores the bytes of `t` from place `at` on; answers the place after them.
-fn put(out: &mut [u8], at: usize, t: &[u8]) -> usize
-    requires { at + length t.now ≤ length out.old }
-    ensures { Stored (length t.now) t.now out.old at out.new result }
-{
-    bytes::copy_in(out, at, t);
-    at + t.len()
-}
-
-// How many digits the number has.
-#[tactic(auto, using(crate::proofs::LineLaws::one_size, crate::proofs::LineLaws::last_size))]
-fn digit_count(n: u64) -> usize
-    ensures { (result ≡ length (decimal n)) × ((1 ≤ result) × (result ≤ 20)) }
-{
-    let mut k = 1;
-    let mut rest = n;
-    while 10 <= rest {
-        rest /= 10;
-        k += 1;
+impl Text<'_> {
+    fn put(&mut self, t: &[u8])
+        requires { HasRoom (length t.now) self.old }
+        ensures { Puts (length t.now) t.now self.old self.new }
+    {
+        bytes::copy_in(self.out, self.at, t);
+        self.at += t.len();
     }
-    k
-}
 
-// The digits go in from the last to the first.
-#[tactic(auto, using(crate::proofs::LineLaws::some_digit, crate::proofs::LineLaws::one_size, crate::proofs::LineLaws::last_size, crate::proofs::LineLaws::one_digit, crate::proofs::LineLaws::last_digit))]
-fn put_number(out: &mut [u8], at: usize, n: u64) -> usize
-    requires { at + length (decimal n) ≤ length out.old }
-    ensures { Stored 20 (decimal n) out.old at out.new result }
-{
-    let end = at + digit_count(n);
-    let mut i = end - 1;
-    let mut rest = n;
-    while 10 <= rest {
-        out[i] = 48 + (rest % 10) as u8;
-        i -= 1;
-        rest /= 10;
+    fn put_number<I: Integer>(&mut self, n: I)
+        requires { HasRoom I.MAX_STR_LEN self.old }
+        ensures { Puts I.MAX_STR_LEN (I.text n) self.old self.new }
+    {
+        let mut digits = Buffer::new();
+        self.put(digits.format(n).as_bytes());
     }
-    out[i] = 48 + rest as u8;
-    end
-}
 
-fn put_small(out: &mut [u8], at: usize, n: u8) -> usize
-    requires { at + 3 ≤ length out.old }
-    ensures { Stored 3 (decimal n) out.old at out.new result }
-{
-    put_number(out, at, n as u64)
-}
-
-// A field's name and its number.
-fn put_field(out: &mut [u8], at: usize, name: &[u8], n: u64) -> usize
-    requires { at + (length name.now + 20) ≤ length out.old }
-    ensures { Stored (length name.now + 20) (name.now ++ decimal n) out.old at out.new result }
-{
-    let a = put(out, at, name);
-    put_number(out, a, n)
-}
-
-fn put_relationship(out: &mut [u8], at: usize, r: Relationship) -> usize
-    requires { at + 8 ≤ length out.old }
-    ensures { Stored 8 (word_text (relationship_word r)) out.old at out.new result }
-{
-    match r {
-        Relationship::None => put(out, at, b" none"),
-        Relationship::Monitor => put(out, at, b" monitor"),
-        Relationship::Control => put(out, at, b" control"),
+    // A field's name and its number.
+    fn put_field(&mut self, name: &[u8], n: u64)
+        requires { HasRoom (length name.now + 20) self.old }
+        ensures { Puts (length name.now + 20) (name.now ++ decimal n) self.old self.new }
+    {
+        self.put(name);
+        self.put_number(n);
     }
-}
 
-fn put_suspension(out: &mut [u8], at: usize, s: Suspension) -> usize
-    requires { at + 4 ≤ length out.old }
-    ensures { Stored 4 (suspended_text (suspended_at s)) out.old at out.new result }
-{
-    match s {
-        Suspension::None => put(out, at, b" -"),
-        Suspension::At(q) => {
-            let a = put(out, at, b" ");
-            put_small(out, a, q.number)
+    fn put_relationship(&mut self, r: Relationship)
+        requires { HasRoom 8 self.old }
+        ensures { Puts 8 (word_text (relationship_word r)) self.old self.new }
+    {
+        self.put(word_of(r));
+    }
+
+    // The point of suspension, or that there is none.
+    fn put_suspension(&mut self, point: Option<Point>)
+        requires { HasRoom 4 self.old }
+        ensures { Puts 4 (suspended_text (suspended_at point)) self.old self.new }
+    {
+        match point {
+            None => self.put(b" -"),
+            Some(q) => {
+                self.put(b" ");
+                self.put_number(q.number);
+            }
         }
     }
-}
 
-// The mark of a report, and the point with its leg.
-fn put_point(out: &mut [u8], at: usize, mark: &[u8], q: Point) -> usize
-    requires { at + (length mark.now + 7) ≤ length out.old }
-    ensures { Stored (length mark.now + 7) (mark.now ++ pair_text (pair_of q)) out.old at out.new result }
-{
-    let leg = q.leg;
-    let a = put(out, at, mark);
-    let b = put_small(out, a, q.number);
-    let c = put(out, b, b"/");
-    put_small(out, c, item::leg_number(leg))
-}
+    // The mark of a report, and the point with its leg.
+    fn put_point(&mut self, mark: &[u8], q: Point)
+        requires { HasRoom (length mark.now + 7) self.old }
+        ensures { Puts (length mark.now + 7) (mark.now ++ pair_text (pair_of q)) self.old self.new }
+    {
+        self.put(mark);
+        self.put_number(q.number);
+        self.put(b"/");
+        self.put_number(q.leg.number());
+    }
 
-fn put_event(out: &mut [u8], at: usize, report: Report) -> usize
-    requires { at + 9 ≤ length out.old }
-    ensures { Stored 9 (event_text (event_of report)) out.old at out.new result }
-{
-    match report {
-        Report::None => at,
-        Report::Interrupting(q) => put_point(out, at, b" r", q),
-        Report::Notification(q) => put_point(out, at, b" n", q),
+    fn put_event(&mut self, report: Option<Report>)
+        requires { HasRoom 9 self.old }
+        ensures { Puts 9 (event_text (event_of report)) self.old self.new }
+    {
+        match report {
+            None => (),
+            Some(Report::Interrupting(q)) => self.put_point(b" r", q),
+            Some(Report::Notification(q)) => self.put_point(b" n", q),
+        }
+    }
+
+    // A time's field, where there is one: the charge of a leg, or the deadline.
+    fn put_tenths(&mut self, name: &[u8], t: Option<Tenths>)
+        requires { HasRoom (length name.now + 20) self.old }
+        ensures { Puts (length name.now + 20) (field name.now (tenths_in t)) self.old self.new }
+    {
+        match t {
+            None => (),
+            Some(t) => self.put_field(name, t.0),
+        }
+    }
+
+    fn put_reports(&mut self, reports: Reports)
+        requires { HasRoom 57 self.old }
+        ensures { Puts 57 (reports_text (event_of reports.event) (tenths_in reports.charge1) (tenths_in reports.charge2)) self.old self.new }
+    {
+        self.put_event(reports.event);
+        self.put_tenths(b" c1=", reports.charge1);
+        self.put_tenths(b" c2=", reports.charge2);
+    }
+
+    fn put_over(&mut self, over: bool)
+        requires { HasRoom 5 self.old }
+        ensures { Puts 5 (over_text over) self.old self.new }
+    {
+        if over {
+            self.put(b" over");
+        }
+    }
+
+    fn put_outcome(&mut self, o: Outcome)
+        requires { HasRoom 99 self.old }
+        ensures { Puts 99 (told_text (told_of o)) self.old self.new }
+    {
+        self.put(b" ok");
+        self.put_relationship(o.relationship);
+        self.put_suspension(o.suspension);
+        self.put_reports(o.reports);
+        self.put_tenths(b" d", o.deadline);
+        self.put_over(o.over);
+    }
+
+    fn put_answer(&mut self, answer: Answer)
+        requires { HasRoom 99 self.old }
+        ensures { Puts 99 (values_text (values_of answer)) self.old self.new }
+    {
+        match answer {
+            Ok(o) => self.put_outcome(o),
+            Err(refusal) => self.put_field(b" refused ", u64::from(refusal.number())),
+        }
+    }
+
+    fn put_line(&mut self, number: u64, answer: Answer)
+        requires { HasRoom longest self.old }
+        ensures { Puts longest (line_of number (values_of answer)) self.old self.new }
+    {
+        self.put_number(number);
+        self.put_answer(answer);
+        self.put(b"\n");
     }
 }
 
-// The charge of the leg that the name says.
-fn put_charge(out: &mut [u8], at: usize, name: &[u8], charge: ChargeReport) -> usize
-    requires { at + (length name.now + 20) ≤ length out.old }
-    ensures { Stored (length name.now + 20) (field name.now (figure_of charge)) out.old at out.new result }
+// By a match: a derive would print the variants' names and not the paper's words.
+fn word_of(r: Relationship) -> &'static [u8]
+    ensures { (result.now ≡ word_text (relationship_word r)) × (length result.now ≤ 8) }
 {
-    match charge {
-        ChargeReport::None => at,
-        ChargeReport::Elapsed(t) => put_field(out, at, name, t.0),
+    match r {
+        Relationship::None => b" none",
+        Relationship::Monitor => b" monitor",
+        Relationship::Control => b" control",
     }
-}
-
-fn put_reports(out: &mut [u8], at: usize, reports: Reports) -> usize
-    requires { at + 57 ≤ length out.old }
-    ensures { Stored 57 (reports_text (event_of reports.event) (figure_of reports.charge1) (figure_of reports.charge2)) out.old at out.new result }
-{
-    let event = reports.event;
-    let charge1 = reports.charge1;
-    let charge2 = reports.charge2;
-    let a = put_event(out, at, event);
-    let b = put_charge(out, a, b" c1=", charge1);
-    put_charge(out, b, b" c2=", charge2)
-}
-
-fn put_deadline(out: &mut [u8], at: usize, deadline: Deadline) -> usize
-    requires { at + 22 ≤ length out.old }
-    ensures { Stored 22 (field (text " d") (deadline_of deadline)) out.old at out.new result }
-{
-    match deadline {
-        Deadline::None => at,
-        Deadline::At(t) => put_field(out, at, b" d", t.0),
-    }
-}
-
-fn put_over(out: &mut [u8], at: usize, over: bool) -> usize
-    requires { at + 5 ≤ length out.old }
-    ensures { Stored 5 (over_text over) out.old at out.new result }
-{
-    if over { put(out, at, b" over") } else { at }
-}
-
-fn put_outcome(out: &mut [u8], at: usize, o: Outcome) -> usize
-    requires { at + 99 ≤ length out.old }
-    ensures { Stored 99 (told_text (told_of o)) out.old at out.new result }
-{
-    let relationship = o.relationship;
-    let suspension = o.suspension;
-    let reports = o.reports;
-    let deadline = o.deadline;
-    let a = put(out, at, b" ok");
-    let b = put_relationship(out, a, relationship);
-    let c = put_suspension(out, b, suspension);
-    let d = put_reports(out, c, reports);
-    let e = put_deadline(out, d, deadline);
-    put_over(out, e, o.over)
-}
-
-fn put_answer(out: &mut [u8], at: usize, answer: Answer) -> usize
-    requires { at + 99 ≤ length out.old }
-    ensures { Stored 99 (values_text (values_of answer)) out.old at out.new result }
-{
-    match answer {
-        Answer::Accepted(o) => put_outcome(out, at, o),
-        Answer::Refused(n) => put_field(out, at, b" refused ", n as u64),
-    }
-}
-
-fn put_line(out: &mut [u8], at: usize, number: u64, answer: Answer) -> usize
-    requires { at + longest ≤ length out.old }
-    ensures { Stored longest (line_of number (values_of answer)) out.old at out.new result }
-{
-    let a = put_number(out, at, number);
-    let b = put_answer(out, a, answer);
-    put(out, b, b"\n")
 }
 
 // There is room for the longest line.
@@ -205,37 +169,28 @@ pub fn has_room(out: &[u8], at: usize) -> bool
     (at <= out.len()) && (LONGEST <= out.len() - at)
 }
 
-// Stores the line, where there is room for the longest one.
-pub fn line(out: &mut [u8], at: usize, number: u64, answer: Answer) -> Printed
+// Stores the line and answers the next place, behind it. Where there is no room for the longest line nothing is stored.
+pub fn line(out: &mut [u8], at: usize, number: u64, answer: Answer) -> Option<usize>
     ensures out_after { (result, out.new) ≡ printed (line_of number (values_of answer)) out.old at }
-    ensures at_bound { place_after result at ≤ at + longest }
+    ensures at_bound { unwrap_or result at ≤ at + longest }
 {
-    if has_room(out, at) {
-        Printed::Next(put_line(out, at, number, answer))
-    } else {
-        Printed::NoRoom
+    if !has_room(out, at) {
+        return None;
     }
+    let mut text = Text { out, at };
+    text.put_line(number, answer);
+    Some(text.at)
 }
 
 // Stores the line above all others.
-#[tactic(auto, using(crate::proofs::LineLaws::no_room))]
-pub fn header(out: &mut [u8], at: usize) -> Printed
+pub fn header(out: &mut [u8], at: usize) -> Option<usize>
     ensures out_after { (result, out.new) ≡ printed header_text out.old at }
-    ensures at_bound { place_after result at ≤ at + longest }
+    ensures at_bound { unwrap_or result at ≤ at + longest }
 {
-    if has_room(out, at) {
-        Printed::Next(put(out, at, b"item answer\n"))
-    } else {
-        Printed::NoRoom
+    if !has_room(out, at) {
+        return None;
     }
-}
-
-// Where the text goes on after a line at `at`: at the same place, if there was no room for it.
-pub fn place_after(p: Printed, at: usize) -> usize
-    ensures { result ≡ place_after p at }
-{
-    match p {
-        Printed::NoRoom => at,
-        Printed::Next(next) => next,
-    }
+    let mut text = Text { out, at };
+    text.put(b"item answer\n");
+    Some(text.at)
 }

@@ -1,12 +1,12 @@
 // Where an item's call stands in the table, or where a Setup may go.
-ghost use Rattle.std.specs.Prelude.{◌≡◌, length};
-ghost use Rattle.table.specs.Table.{find, place_or, is_none, is_call};
-ghost use Rattle.table.specs.Slot.{owner_of};
-ghost use Rattle.table.specs.Lookup.{locate_of, slot_of, is_of};
+ghost use Rattle.std.specs.Prelude.{◌≡◌, ◌<◌, length, IfSome};
+ghost use Rattle.table.specs.Table.{find};
+ghost use Rattle.table.specs.Lookup.{IsBelow, locate_of, is_of};
 
 use crate::slot::*;
 
 // The call's slot; else the lowest free one; else none.
+// Its own enum: an Option in a Result would say the same three cases no plainer.
 #[derive(Clone, Copy)]
 pub enum Spot {
     Nowhere,
@@ -14,76 +14,24 @@ pub enum Spot {
     Own(usize),
 }
 
-fn is_free(owner: Owner) -> bool
-    ensures { result ≡ is_none (owner_of owner) }
+// The place of the first slot that has the owner.
+pub(crate) fn first_of(table: &[Slot], wanted: Option<u32>) -> Option<usize>
+    ensures place { result ≡ find (is_of wanted) table.now }
+    ensures inside { IfSome result (λ i. i < length table.now) }
 {
-    match owner {
-        Owner::Free => true,
-        Owner::Call(_) => false,
-    }
-}
-
-fn is_call(owner: Owner, call: u32) -> bool
-    ensures { result ≡ is_call call (owner_of owner) }
-{
-    match owner {
-        Owner::Free => false,
-        Owner::Call(k) => k == call,
-    }
-}
-
-// The slot has the owner that is looked for.
-pub(crate) fn is_of(wanted: Owner, slot: Slot) -> bool
-    ensures { result ≡ is_of wanted slot }
-{
-    let owner = slot.owner;
-    match wanted {
-        Owner::Free => is_free(owner),
-        Owner::Call(k) => is_call(owner, k),
-    }
-}
-
-// The place of the first slot that has the owner; 64 where none has.
-#[tactic(auto, using(crate::proofs::LookupLaws::ahead_start, crate::proofs::LookupLaws::ahead_end))]
-pub(crate) fn first_of(table: &[Slot], wanted: Owner) -> usize
-    requires { length table.now ≡ 64 }
-    ensures { result ≡ place_or 64 (find (is_of wanted) table.now) }
-{
-    let mut i = 0;
-    while i < 64 {
-        let slot = table[i];
-        if is_of(wanted, slot) {
-            return i;
-        }
-        i += 1;
-    }
-    64
+    table.iter().position(|slot| slot.owner == wanted)
 }
 
 // The call's slot, or else the lowest free one, which is looked for only then.
-#[tactic(auto, using(crate::proofs::LookupLaws::own_located, crate::proofs::LookupLaws::free_located, crate::proofs::LookupLaws::not_located))]
 pub(crate) fn locate(table: &[Slot], call: u32) -> Spot
-    requires { length table.now ≡ 64 }
-    ensures { result ≡ locate_of call table.now }
+    ensures spot { result ≡ locate_of call table.now }
+    ensures inside { IsBelow (length table.now) result }
 {
-    let own = first_of(table, Owner::Call(call));
-    if own < 64 {
-        return Spot::Own(own);
-    }
-    let free = first_of(table, Owner::Free);
-    if free < 64 {
-        return Spot::Free(free);
-    }
-    Spot::Nowhere
-}
-
-// The number of the slot that is looked at; where there is none, the first, which then stays as it is.
-pub(crate) fn slot_of(s: Spot) -> usize
-    ensures { result ≡ slot_of s }
-{
-    match s {
-        Spot::Nowhere => 0,
-        Spot::Free(i) => i,
-        Spot::Own(i) => i,
+    match first_of(table, Some(call)) {
+        Some(i) => Spot::Own(i),
+        None => match first_of(table, None) {
+            Some(i) => Spot::Free(i),
+            None => Spot::Nowhere,
+        },
     }
 }

@@ -7,15 +7,10 @@ ghost use Rattle.table.specs.Feed.{is_sound_table};
 use call::record;
 use call::record::Record;
 
-#[derive(Clone, Copy)]
-pub enum Owner {
-    Free,
-    Call(u32),
-}
-
+// The call that owns the slot, none where it is free, and that call's record.
 #[derive(Clone, Copy)]
 pub struct Slot {
-    pub owner: Owner,
+    pub owner: Option<u32>,
     pub body: Record,
 }
 
@@ -23,9 +18,10 @@ pub struct Slot {
 pub fn blank_slot() -> Slot
     ensures { result ≡ blank_slot }
 {
-    let body = record::blank_record();
-    let owner = Owner::Free;
-    Slot { owner, body }
+    Slot {
+        owner: None,
+        body: record::blank_record(),
+    }
 }
 
 // A fresh table: 64 free records.
@@ -33,6 +29,5 @@ pub fn blank_slot() -> Slot
 pub fn fresh() -> [Slot; 64]
     ensures { (result ≡ fresh our_slots) × (is_sound_table result ≡ true) }
 {
-    let blank = blank_slot();
-    [blank; 64]
+    [blank_slot(); 64]
 }

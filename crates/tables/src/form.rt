@@ -2,8 +2,8 @@
 // Numbers are big-endian. Each field has a fixed place, so that any value which a slot can hold has a form, but for the called number's 16th place, which is zero here:
 //   0 owner (0 free, 1 a call), 1 call (4), 5 stage, 6 leg 1, 24 leg 2, 42 hold, 43 last time (8), 51 ten armings,
 //   61 kept timer (4), 65 default timer (4), 69 default handling, 70 called number: nature, count, 15 digits, 87 kind of call
-// A leg: presence, clock of its charge (0 none, 1 waiting, 2 running), period (8), start (8). Enums are numbered as they are declared, but for the modes (1 interrupted, 2 notify); a hold at a role is 2 more than the role's place.
-ghost use Rattle.std.specs.Prelude.{◌<◌};
+// A leg: presence, clock of its charge (0 none, 1 waiting, 2 running), period (8), start (8). A field with few values holds the place of its value in one of the lists below, and any further number stands for the first; a hold at a role is 2 more than the role's place.
+ghost use Rattle.std.specs.Prelude.{◌≤◌, ◌+◌};
 
 use call::armings::*;
 use call::record::*;
@@ -13,352 +13,169 @@ use forms::bytes;
 use forms::item::Bcsm;
 use forms::profile::Handling;
 use forms::units::*;
-use table::slot::{Owner, Slot};
+use std::array;
+use table::slot::Slot;
 
 pub const SIZE: usize = 88;
 
-fn number4(s: &[u8], at: usize) -> u32 {
-    bytes::number4(bytes::from(s, at)) as u32
+const STAGES: [Stage; 3] = [Stage::Analysing, Stage::Alerting, Stage::Active];
+
+const PRESENCES: [Presence; 2] = [Presence::Absent, Presence::Present];
+
+const CLOCKS: [Clock; 3] = [Clock::None, Clock::Waiting, Clock::Running];
+
+const MODES: [Mode; 3] = [Mode::None, Mode::Interrupted, Mode::Notify];
+
+const HANDLINGS: [Handling; 2] = [Handling::Continue, Handling::Release];
+
+const BCSMS: [Bcsm; 2] = [Bcsm::Originating, Bcsm::Terminating];
+
+const ROLES: [Role; 10] = [
+    Role::MidCall,
+    Role::Disconnect1,
+    Role::Abandon,
+    Role::Moved,
+    Role::RouteFailure,
+    Role::Busy,
+    Role::NoAnswer,
+    Role::Answer,
+    Role::Disconnect2,
+    Role::Seized,
+];
+
+// The value at that place of the list.
+fn value_at<T: Copy, const N: usize>(values: [T; N], place: u8) -> T
+    requires { 1 ≤ N }
+{
+    values.get(usize::from(place)).copied().unwrap_or(values[0])
 }
 
-fn number8(s: &[u8], at: usize) -> u64 {
-    let t = bytes::from(s, at);
-    (bytes::number4(t) * 4294967296 + bytes::number4(bytes::from(t, 4))) as u64
+// The place of the value in the list, which has every value.
+fn place_in<T: Copy + PartialEq, const N: usize>(values: [T; N], value: T) -> u8 {
+    let place = values.iter().position(|v| *v == value);
+    u8::try_from(place.unwrap_or(0)).unwrap_or(0)
 }
 
-fn owner_at(s: &[u8]) -> Owner {
-    let b = bytes::at(s, 0);
-    match b {
-        1 => Owner::Call(number4(s, 1)),
-        _ => Owner::Free,
-    }
-}
-
-fn stage_of(b: u8) -> Stage {
-    match b {
-        1 => Stage::Alerting,
-        2 => Stage::Active,
-        _ => Stage::Analysing,
-    }
-}
-
-fn presence_of(b: u8) -> Presence {
-    match b {
-        1 => Presence::Present,
-        _ => Presence::Absent,
-    }
-}
-
-fn clock_of(b: u8) -> Clock {
-    match b {
-        1 => Clock::Waiting,
-        2 => Clock::Running,
-        _ => Clock::None,
-    }
-}
-
-fn hold_of(b: u8) -> Hold {
-    match b {
+// A hold at a role is no value of a list: kept, both ways by hand over the list of roles. (`Hold` has no `==`: it was measured, see there.)
+fn hold_at(place: u8) -> Hold {
+    match place {
+        0 => Hold::None,
         1 => Hold::Trigger,
-        2 => Hold::At(Role::MidCall),
-        3 => Hold::At(Role::Disconnect1),
-        4 => Hold::At(Role::Abandon),
-        5 => Hold::At(Role::Moved),
-        6 => Hold::At(Role::RouteFailure),
-        7 => Hold::At(Role::Busy),
-        8 => Hold::At(Role::NoAnswer),
-        9 => Hold::At(Role::Answer),
-        10 => Hold::At(Role::Disconnect2),
-        11 => Hold::At(Role::Seized),
-        _ => Hold::None,
+        _ => match ROLES.get(usize::from(place - 2)) {
+            Some(role) => Hold::At(*role),
+            None => Hold::None,
+        },
     }
 }
 
-fn mode_of(b: u8) -> Mode {
-    match b {
-        1 => Mode::Interrupted,
-        2 => Mode::Notify,
-        _ => Mode::None,
+fn place_of_hold(hold: Hold) -> u8 {
+    match hold {
+        Hold::None => 0,
+        Hold::Trigger => 1,
+        // The list is short: so it needs no `requires`, the sum is one that stops.
+        Hold::At(role) => place_in(ROLES, role).saturating_add(2),
     }
 }
 
-fn arming_at(s: &[u8], at: usize) -> Arming {
-    let mode = mode_of(bytes::at(s, at));
-    Arming { mode }
+// The N bytes from that place on.
+fn array_at<const N: usize>(s: &[u8; SIZE], at: usize) -> [u8; N]
+    requires { at + N ≤ 88 }
+{
+    *s[at..].first_chunk().unwrap()
 }
 
-fn armings_at(s: &[u8]) -> [Arming; 10] {
-    [
-        arming_at(s, 51),
-        arming_at(s, 52),
-        arming_at(s, 53),
-        arming_at(s, 54),
-        arming_at(s, 55),
-        arming_at(s, 56),
-        arming_at(s, 57),
-        arming_at(s, 58),
-        arming_at(s, 59),
-        arming_at(s, 60),
-    ]
+fn tenths_at(s: &[u8; SIZE], at: usize) -> Tenths
+    requires { at + 8 ≤ 88 }
+{
+    Tenths(u64::from_be_bytes(array_at(s, at)))
 }
 
-fn handling_of(b: u8) -> Handling {
-    match b {
-        1 => Handling::Release,
-        _ => Handling::Continue,
-    }
-}
-
-fn bcsm_of(b: u8) -> Bcsm {
-    match b {
-        1 => Bcsm::Terminating,
-        _ => Bcsm::Originating,
-    }
-}
-
-fn number_at(s: &[u8], at: usize) -> Number {
-    let t = bytes::from(s, at);
-    let mut digits = [0u8; PLACES];
-    put_bytes(&mut digits, 0, bytes::part_of(t, 2, 15));
+fn number_in(s: &[u8; SIZE]) -> Number {
+    let mut digits = [0; PLACES];
+    digits[..15].copy_from_slice(&s[72..87]);
     Number {
-        nature: bytes::at(t, 0),
-        count: bytes::at(t, 1),
+        nature: s[70],
+        count: s[71],
         digits,
     }
 }
 
-fn record_at(s: &[u8]) -> Record {
-    let stage = stage_of(bytes::at(s, 5));
-    let leg1 = presence_of(bytes::at(s, 6));
-    let clock1 = clock_of(bytes::at(s, 7));
-    let period1 = Tenths(number8(s, 8));
-    let start1 = Tenths(number8(s, 16));
-    let leg2 = presence_of(bytes::at(s, 24));
-    let clock2 = clock_of(bytes::at(s, 25));
-    let period2 = Tenths(number8(s, 26));
-    let start2 = Tenths(number8(s, 34));
-    let hold = hold_of(bytes::at(s, 42));
-    let last = Tenths(number8(s, 43));
-    let armings = armings_at(s);
-    let kept = Seconds(number4(s, 61));
-    let timer = Seconds(number4(s, 65));
-    let handling = handling_of(bytes::at(s, 69));
-    let number = number_at(s, 70);
-    let bcsm = bcsm_of(bytes::at(s, 87));
+fn record_in(s: &[u8; SIZE]) -> Record {
     Record {
-        last,
-        period1,
-        start1,
-        period2,
-        start2,
-        kept,
-        timer,
-        armings,
-        number,
-        stage,
-        hold,
-        handling,
-        leg1,
-        leg2,
-        clock1,
-        clock2,
-        bcsm,
+        last: tenths_at(s, 43),
+        period1: tenths_at(s, 8),
+        start1: tenths_at(s, 16),
+        period2: tenths_at(s, 26),
+        start2: tenths_at(s, 34),
+        kept: Seconds(u32::from_be_bytes(array_at(s, 61))),
+        timer: Seconds(u32::from_be_bytes(array_at(s, 65))),
+        armings: array_at::<10>(s, 51).map(|place| Arming {
+            mode: value_at(MODES, place),
+        }),
+        number: number_in(s),
+        stage: value_at(STAGES, s[5]),
+        hold: hold_at(s[42]),
+        handling: value_at(HANDLINGS, s[69]),
+        leg1: value_at(PRESENCES, s[6]),
+        leg2: value_at(PRESENCES, s[24]),
+        clock1: value_at(CLOCKS, s[7]),
+        clock2: value_at(CLOCKS, s[25]),
+        bcsm: value_at(BCSMS, s[87]),
     }
 }
 
-// The slot whose form s begins with.
+// The slot whose form s begins with. Where s is cut short, zeros stand for the bytes that lack.
 pub(crate) fn slot_of(s: &[u8]) -> Slot {
-    let owner = owner_at(s);
-    let body = record_at(s);
-    Slot { owner, body }
-}
-
-fn put(d: &mut [u8], at: usize, b: u8) {
-    if at < d.len() {
-        d[at] = b;
+    let whole = array::from_fn(|i| bytes::at(s, i));
+    Slot {
+        owner: (whole[0] == 1).then_some(u32::from_be_bytes(array_at(&whole, 1))),
+        body: record_in(&whole),
     }
 }
 
-// The bytes of s from place `at` on, as many as there is room for.
-fn put_bytes(d: &mut [u8], at: usize, s: &[u8])
-    requires { at < 87 }
+// Stores the bytes b from that place on.
+fn put<const N: usize>(d: &mut [u8; SIZE], at: usize, b: [u8; N])
+    requires { at + N ≤ 88 }
 {
-    let mut i = 0;
-    while i < s.len() {
-        put(d, at + i, s[i]);
-        i += 1;
-    }
+    d[at..at + N].copy_from_slice(&b);
 }
 
-fn put4(d: &mut [u8], at: usize, n: u32)
-    requires { at < 87 }
+// A leg at its place.
+// Kept, its four fields as parameters: so a leg lies in the record.
+fn put_leg(
+    d: &mut [u8; SIZE],
+    at: usize,
+    presence: Presence,
+    clock: Clock,
+    period: Tenths,
+    start: Tenths,
+)
+    requires { at + 18 ≤ 88 }
 {
-    put(d, at, (n / 16777216 % 256) as u8);
-    put(d, at + 1, (n / 65536 % 256) as u8);
-    put(d, at + 2, (n / 256 % 256) as u8);
-    put(d, at + 3, (n % 256) as u8);
+    d[at] = place_in(PRESENCES, presence);
+    d[at + 1] = place_in(CLOCKS, clock);
+    put(d, at + 2, period.0.to_be_bytes());
+    put(d, at + 10, start.0.to_be_bytes());
 }
 
-fn put8(d: &mut [u8], at: usize, n: u64)
-    requires { at < 83 }
-{
-    put4(d, at, (n / 4294967296) as u32);
-    put4(d, at + 4, (n % 4294967296) as u32);
-}
-
-fn put_owner(d: &mut [u8], owner: Owner) {
-    match owner {
-        Owner::Free => {
-            put(d, 0, 0);
-            put4(d, 1, 0);
-        }
-        Owner::Call(k) => {
-            put(d, 0, 1);
-            put4(d, 1, k);
-        }
-    }
-}
-
-fn stage_number(stage: Stage) -> u8 {
-    match stage {
-        Stage::Analysing => 0,
-        Stage::Alerting => 1,
-        Stage::Active => 2,
-    }
-}
-
-fn presence_number(presence: Presence) -> u8 {
-    match presence {
-        Presence::Absent => 0,
-        Presence::Present => 1,
-    }
-}
-
-fn clock_number(clock: Clock) -> u8 {
-    match clock {
-        Clock::None => 0,
-        Clock::Waiting => 1,
-        Clock::Running => 2,
-    }
-}
-
-fn put_leg(d: &mut [u8], at: usize, presence: Presence, clock: Clock, period: Tenths, start: Tenths)
-    requires { at < 69 }
-{
-    put(d, at, presence_number(presence));
-    put(d, at + 1, clock_number(clock));
-    put8(d, at + 2, period.0);
-    put8(d, at + 10, start.0);
-}
-
-fn role_number(role: Role) -> u8 {
-    match role {
-        Role::MidCall => 2,
-        Role::Disconnect1 => 3,
-        Role::Abandon => 4,
-        Role::Moved => 5,
-        Role::RouteFailure => 6,
-        Role::Busy => 7,
-        Role::NoAnswer => 8,
-        Role::Answer => 9,
-        Role::Disconnect2 => 10,
-        Role::Seized => 11,
-    }
-}
-
-fn hold_number(hold: Hold) -> u8 {
-    match hold {
-        Hold::None => 0,
-        Hold::Trigger => 1,
-        Hold::At(role) => role_number(role),
-    }
-}
-
-fn mode_number(a: Arming) -> u8 {
-    let mode = a.mode;
-    match mode {
-        Mode::None => 0,
-        Mode::Interrupted => 1,
-        Mode::Notify => 2,
-    }
-}
-
-fn mode_numbers(a: [Arming; 10]) -> [u8; 10] {
-    [
-        mode_number(a[0]),
-        mode_number(a[1]),
-        mode_number(a[2]),
-        mode_number(a[3]),
-        mode_number(a[4]),
-        mode_number(a[5]),
-        mode_number(a[6]),
-        mode_number(a[7]),
-        mode_number(a[8]),
-        mode_number(a[9]),
-    ]
-}
-
-fn handling_number(handling: Handling) -> u8 {
-    match handling {
-        Handling::Continue => 0,
-        Handling::Release => 1,
-    }
-}
-
-fn bcsm_number(bcsm: Bcsm) -> u8 {
-    match bcsm {
-        Bcsm::Originating => 0,
-        Bcsm::Terminating => 1,
-    }
-}
-
-fn put_number(d: &mut [u8], number: Number) {
-    put(d, 70, number.nature);
-    put(d, 71, number.count);
-    let digits = number.digits;
-    put_bytes(d, 72, bytes::part_of(&digits, 0, 15));
-}
-
-fn put_state(d: &mut [u8], r: Record) {
-    let stage = r.stage;
-    let leg1 = r.leg1;
-    let clock1 = r.clock1;
-    let period1 = r.period1;
-    let start1 = r.start1;
-    let leg2 = r.leg2;
-    let clock2 = r.clock2;
-    let period2 = r.period2;
-    let start2 = r.start2;
-    let hold = r.hold;
-    let last = r.last;
-    put(d, 5, stage_number(stage));
-    put_leg(d, 6, leg1, clock1, period1, start1);
-    put_leg(d, 24, leg2, clock2, period2, start2);
-    put(d, 42, hold_number(hold));
-    put8(d, 43, last.0);
-}
-
-fn put_settings(d: &mut [u8], r: Record) {
-    let armings = r.armings;
-    let kept = r.kept;
-    let timer = r.timer;
-    let handling = r.handling;
-    let number = r.number;
-    let bcsm = r.bcsm;
-    let modes = mode_numbers(armings);
-    put_bytes(d, 51, &modes);
-    put4(d, 61, kept.0);
-    put4(d, 65, timer.0);
-    put(d, 69, handling_number(handling));
-    put_number(d, number);
-    put(d, 87, bcsm_number(bcsm));
-}
-
-// The form of a slot, at the start of d.
-pub(crate) fn put_slot(d: &mut [u8], slot: Slot) {
-    let owner = slot.owner;
-    let body = slot.body;
-    put_owner(d, owner);
-    put_state(d, body);
-    put_settings(d, body);
+// The form of a slot.
+pub(crate) fn form_of(slot: Slot) -> [u8; SIZE] {
+    let r = slot.body;
+    let mut d = [0; SIZE];
+    d[0] = u8::from(slot.owner.is_some());
+    d[5] = place_in(STAGES, r.stage);
+    d[42] = place_of_hold(r.hold);
+    d[69] = place_in(HANDLINGS, r.handling);
+    d[70] = r.number.nature;
+    d[71] = r.number.count;
+    d[87] = place_in(BCSMS, r.bcsm);
+    put(&mut d, 1, slot.owner.unwrap_or(0).to_be_bytes());
+    put_leg(&mut d, 6, r.leg1, r.clock1, r.period1, r.start1);
+    put_leg(&mut d, 24, r.leg2, r.clock2, r.period2, r.start2);
+    put(&mut d, 43, r.last.0.to_be_bytes());
+    put(&mut d, 51, r.armings.map(|a| place_in(MODES, a.mode)));
+    put(&mut d, 61, r.kept.0.to_be_bytes());
+    put(&mut d, 65, r.timer.0.to_be_bytes());
+    put::<15>(&mut d, 72, *r.number.digits.first_chunk().unwrap());
+    d
 }

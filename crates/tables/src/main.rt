@@ -15,107 +15,63 @@ use table::{feed, line, slot};
 
 const MOST: usize = 100;
 
-fn wide(b: u8) -> usize
-    ensures { result ≤ 255 }
+// What a case holds, in its bytes.
+#[derive(Clone, Copy)]
+pub struct Case<'a> {
+    pub count: usize,
+    pub slots: &'a [u8],
+    pub profile: &'a [u8],
+    pub item: &'a [u8],
+}
+
+// Where a case is cut short, zeros stand in place of the bytes that lack.
+fn case_in(s: &[u8]) -> Case<'_>
+    ensures { result.count ≤ 100 }
 {
-    b as usize
+    let count = usize::from(bytes::at(s, 2)).min(MOST);
+    let tail = bytes::from(s, 3 + count * form::SIZE);
+    let length = usize::from(bytes::at(tail, 0));
+    Case {
+        count,
+        slots: bytes::from(s, 3),
+        profile: bytes::part_of(tail, 1, length),
+        item: bytes::from(tail, 1 + length),
+    }
 }
 
-// How many slots the table has.
-fn count_of(s: &[u8]) -> usize
-    ensures { result ≤ 100 }
+// Stores the line and the slots; answers how many bytes that is.
+fn put_answer(d: &mut [u8; 65536], number: u64, answer: Answer, slots: &[Slot]) -> usize
+    requires { length slots.now ≤ 100 }
+    ensures { result ≤ 65536 }
 {
-    let n = wide(bytes::at(s, 2));
-    if n <= MOST { n } else { MOST }
+    let end = line::line(d, 0, number, answer).unwrap_or(0);
+    for (place, slot) in d[end..].as_chunks_mut().0.iter_mut().zip(slots) {
+        *place = form::form_of(*slot);
+    }
+    end + slots.len() * form::SIZE
 }
 
-// What follows the slots: the length of the profile, the profile, the item.
-fn tail_of(s: &[u8]) -> &[u8] {
-    bytes::from(s, 3 + count_of(s) * form::SIZE)
-}
-
-fn profile_of(s: &[u8]) -> &[u8] {
-    let t = tail_of(s);
-    bytes::part_of(t, 1, wide(bytes::at(t, 0)))
-}
-
-fn item_of(s: &[u8]) -> &[u8] {
-    let t = tail_of(s);
-    bytes::from(t, 1 + wide(bytes::at(t, 0)))
-}
-
-// The slots of the case, in as many places as any case may need.
-fn slots_of(s: &[u8]) -> [Slot; 100]
-    ensures { length result ≡ 100 }
+// Lends the first n slots, of as many as any case may need, and answers the case.
+fn answer_case(s: &[u8], d: &mut [u8; 65536], number: u64) -> usize
+    ensures { result ≤ 65536 }
 {
-    let blank = slot::blank_slot();
-    let mut slots = [blank; 100];
-    let n = count_of(s);
-    let mut i = 0;
-    while i < n {
-        slots[i] = form::slot_of(bytes::from(s, 3 + i * form::SIZE));
-        i += 1;
+    let case = case_in(s);
+    let mut places = [slot::blank_slot(); MOST];
+    let slots = &mut places[..case.count];
+    for (i, slot) in slots.iter_mut().enumerate() {
+        *slot = form::slot_of(bytes::from(case.slots, i * form::SIZE));
     }
-    slots
+    let answer = feed::feed(slots, case.item, case.profile);
+    put_answer(d, number, answer, slots)
 }
 
-fn put_at(d: &mut [u8], at: usize, slot: Slot) {
-    if at <= d.len() {
-        form::put_slot(&mut d[at..], slot);
-    }
-}
-
-// Stores the line and the first n slots; answers how many bytes that is.
-fn put_answer(d: &mut [u8], number: u64, answer: Answer, n: usize, slots: [Slot; 100]) -> usize
-    requires { n ≤ 100 }
-{
-    let end = line::place_after(line::line(d, 0, number, answer), 0);
-    let mut i = 0;
-    while i < n {
-        put_at(d, end + i * form::SIZE, slots[i]);
-        i += 1;
-    }
-    end + n * form::SIZE
-}
-
-// Lends the first n slots, and answers the case.
-fn answer_case(s: &[u8], d: &mut [u8], number: u64) -> usize {
-    let mut slots = slots_of(s);
-    let n = count_of(s);
-    let a = feed::feed(&mut slots[..n], item_of(s), profile_of(s));
-    put_answer(d, number, a, n, slots)
-}
-
-// Reads one case to the start of s; answers its length, 0 where there is none, or none that is whole.
-fn read_case(from: &mut Stdin, s: &mut [u8]) -> usize {
-    if s.len() < 2 {
-        return 0;
-    }
-    let head = streams::read_full(from, &mut s[..2]);
-    let n = bytes::number2(s);
-    if head < 2 {
-        return 0;
-    }
-    if n < 2 {
-        return 0;
-    }
-    if s.len() < n {
-        return 0;
-    }
-    let rest = streams::read_full(from, &mut s[2..n]);
-    if rest < n - 2 { 0 } else { n }
-}
-
-fn run(from: &mut Stdin, out: &mut Stdout, s: &mut [u8], d: &mut [u8]) {
-    let mut number: u64 = 0;
-    while number < u64::MAX {
-        number += 1;
-        let n = read_case(from, s);
-        if n == 0 {
+fn run(from: &mut Stdin, out: &mut Stdout, s: &mut [u8], d: &mut [u8; 65536]) {
+    for number in 1..=u64::MAX {
+        let Some(case) = streams::read_case(from, 2, s) else {
             return;
-        }
-        let m = answer_case(bytes::part_of(s, 0, n), d, number);
-        streams::write_all(out, bytes::part_of(d, 0, m));
+        };
+        let n = answer_case(case, d, number);
+        streams::write_all(out, &d[..n]);
     }
 }
 

@@ -4,8 +4,8 @@ use Rattle.forms.proofs.FeederLaws.{takes_as}
 use Rattle.forms.proofs.feeder.feed_on.Goals as goal
 
 pub join-requires : goal.join-requires
-join-requires c = rw c.part_of-h.ensures (takes_as c.args.f c.args.chunk.now c.requires T.Unfinished c.in-Unfinished.is)
+join-requires c = rw c.bytes-h.ensures (takes_as c.args.f c.args.chunk.now c.requires T.Unfinished c.in-Unfinished.is)
 
 pub complete-requires : goal.complete-requires
 complete-requires c =
-    rw (c.part_of.ensures, c.part_of-h.ensures) (takes_as c.args.f c.args.chunk.now c.requires (T.Whole _) c.in-Whole.is).2
+    rw (c.part_of.ensures, c.bytes-h.ensures) (takes_as c.args.f c.args.chunk.now c.requires (T.Whole _) c.in-Whole.is).2

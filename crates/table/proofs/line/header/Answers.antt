@@ -1,8 +1,11 @@
-use Rattle.std.proofs.Common.{sym, ◌∙◌}
+use Rattle.std.proofs.Common.{sym, ◌∙◌, rules}
 use Rattle.table.specs.Line.{header}
-use Rattle.table.proofs.LineLaws.{with_room}
+use Rattle.table.proofs.LineLaws.{with_room, no_room}
 use Rattle.table.proofs.line.header.Goals as goal
 
-pub returns-then-has_room-clause-out_after : goal.returns-then-has_room-clause-out_after
+pub returns-then-not-has_room-clause-out_after : goal.returns-then-not-has_room-clause-out_after
+returns-then-not-has_room-clause-out_after c = no_room _ _ _ (sym c.has_room.ensures ∙ c.if-not-has_room.true)
+
+pub returns-clause-out_after : goal.returns-clause-out_after
 unfolding header
-returns-then-has_room-clause-out_after c = with_room (sym c.has_room.ensures ∙ c.if-has_room.true) c.put.ensures
+returns-clause-out_after c = with_room _ (sym c.has_room.ensures ∙ c.if-not-has_room.false) c.put.ensures (search rules)

@@ -1,6 +1,0 @@
--- Each turn stores a byte.
-use Rattle.std.proofs.Common.{◌-◌}
-use Rattle.listing.proofs.input.put_before.Given as goal
-
-abbrev pub decreases-loop-i : goal.decreases-loop-i
-decreases-loop-i l = l.n - l.i
