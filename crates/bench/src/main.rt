@@ -9,8 +9,8 @@ mod trigger;
 use call::answers::Answer;
 use forms::comparison::Comparison;
 use forms::{bytes, comparison};
-use std::io;
-use std::io::{Stdout, Write};
+use std::io::Stdout;
+use streams::{write_all, write_decimal, write_field};
 use table::{feed, slot};
 use trigger::Checked;
 
@@ -89,42 +89,37 @@ fn check_all<F: Fn(&[u8], &[u8]) -> Comparison>(mut input: Input<'_>, compare: F
     all
 }
 
-fn write_fed(out: &mut Stdout, total: usize, refused: u64) -> io::Result<()> {
-    writeln!(out, "{total} {refused}")
+fn write_checked(out: &mut Stdout, c: Checked) {
+    write_field(out, b" ", c.matched as u64);
+    write_field(out, b" ", c.pairs as u64);
 }
 
-fn write_checked(out: &mut Stdout, total: usize, c: Checked) -> io::Result<()> {
-    writeln!(out, "{total} {} {}", c.matched, c.pairs)
-}
-
-// The table is fresh, and so sound, and stays so.
-fn report(out: &mut Stdout, buf: &[u8]) -> io::Result<()> {
+// How many there are to be is written first, before any of them.
+// A write that fails goes unsaid, and what follows it is tried all the same: the output then lacks a part.
+fn report(out: &mut Stdout, buf: &[u8]) {
     let input = Input::new(buf);
     let mut slots = slot::fresh();
+    write_decimal(out, input.total as u64);
     match bytes::at(buf, 0) {
         FEED => {
             let refused = count_refused(input, |item| feed::feed(&mut slots, item, input.profile));
-            write_fed(out, input.total, refused)
+            write_field(out, b" ", refused);
         }
         FEED_SOUND => {
             let refused = count_refused(
                 input,
                 |item| feed::feed_sound(&mut slots, item, input.profile),
             );
-            write_fed(out, input.total, refused)
+            write_field(out, b" ", refused);
         }
-        LAST_FIRST => write_checked(out, input.total, check_all(input, comparison::compare)),
-        _ => write_checked(
-            out,
-            input.total,
-            check_all(input, trigger::compare_from_the_front),
-        ),
+        LAST_FIRST => write_checked(out, check_all(input, comparison::compare)),
+        _ => write_checked(out, check_all(input, trigger::compare_from_the_front)),
     }
+    write_all(out, b"\n");
 }
 
-// A write that fails goes unsaid: the output then lacks a part.
 fn main(rt: HostRuntime) {
     let mut buf = streams::large_buffer();
     let n = streams::read_full(&mut rt.stdin(), &mut buf);
-    let _ = report(&mut rt.stdout(), &buf[..n]);
+    report(&mut rt.stdout(), &buf[..n]);
 }

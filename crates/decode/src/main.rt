@@ -4,8 +4,9 @@
 
 mod show;
 
-use std::io;
-use std::io::{Stdout, Write};
+use forms::bytes;
+use std::io::Stdout;
+use streams::write_all;
 
 // Stores the bytes that t stands for at the start of d, and answers them: pairs of hexadecimal digits, with blanks between pairs. None where it is of another form, and where d is too short.
 fn unhex<'d>(t: &[u8], d: &'d mut [u8]) -> Option<&'d [u8]> {
@@ -19,42 +20,39 @@ fn unhex<'d>(t: &[u8], d: &'d mut [u8]) -> Option<&'d [u8]> {
 }
 
 // The answer to a vector whose digits are t: each form has its own reader.
-fn show_vector<F: Fn(&mut Stdout, &[u8]) -> io::Result<()>>(
-    out: &mut Stdout,
-    t: &[u8],
-    show: F,
-) -> io::Result<()>
+fn show_vector<F: Fn(&mut Stdout, &[u8])>(out: &mut Stdout, t: &[u8], show: F)
     requires { F.IsAlwaysCallable show }
 {
     let mut d = [0u8; 256];
     match unhex(t, &mut d) {
         Some(s) => show(out, s),
-        None => out.write_all(b"?"),
+        None => {
+            write_all(out, b"?");
+        }
     }
 }
 
 // One line out for one line in, whatever it holds. A line goes by how it begins.
-fn show_line(out: &mut Stdout, t: &[u8]) -> io::Result<()> {
-    if t.is_empty() || t.starts_with(b"#") {
-        out.write_all(t)?;
-    } else if t.starts_with(b"item") {
-        show_vector(out, &t[4..], show::show_item)?;
-    } else if t.starts_with(b"profile") {
-        show_vector(out, &t[7..], show::show_profile)?;
+fn show_line(out: &mut Stdout, t: &[u8]) {
+    if t.is_empty() || bytes::leads(b"#", t) {
+        write_all(out, t);
+    } else if bytes::leads(b"item", t) {
+        show_vector(out, bytes::from(t, 4), show::show_item);
+    } else if bytes::leads(b"profile", t) {
+        show_vector(out, bytes::from(t, 7), show::show_profile);
     } else {
-        out.write_all(b"?")?;
+        write_all(out, b"?");
     }
-    out.write_all(b"\n")
+    write_all(out, b"\n");
 }
 
 // Each line in its turn. The last one need not end in a line feed.
-// A write that fails goes unsaid: the output then lacks a part, and the comparison finds it.
 fn show_lines(out: &mut Stdout, t: &[u8]) {
     for line in t.split_inclusive(|c| *c == b'\n') {
-        let _ = match line {
+        match line {
             [line @ .., b'\n'] => show_line(out, line),
             _ => show_line(out, line),
-        };
+        }
     }
 }
 

@@ -1,10 +1,11 @@
 // What the layer `forms` answers to the bytes of a vector, as text.
+// A write that fails goes unsaid, and what follows it is tried all the same: the output then lacks a part, and the comparison finds it.
 use forms::item::{Bcsm, Body, Entry, Item};
 use forms::profile::ProfileView;
 use forms::refusal::Refusal;
 use forms::{bytes, item, profile, write};
-use std::io;
-use std::io::{Stdout, Write};
+use std::io::Stdout;
+use streams::{write_all, write_field};
 
 // The kind's number: that of the body read, not of the byte it was read from. Document 01's numbers, once more: those of `forms` are its own.
 // Kept, a number for each variant by hand: `as` has none for variants with fields, and this program is there to compare with what `forms` says.
@@ -34,8 +35,11 @@ fn kind_of(body: Body) -> u8 {
 }
 
 // ` POINT/LEG/MODE/TIMER`.
-fn show_entry(out: &mut Stdout, e: Entry) -> io::Result<()> {
-    write!(out, " {}/{}/{}/{}", e.point, e.leg, e.mode, e.timer.0)
+fn show_entry(out: &mut Stdout, e: Entry) {
+    write_field(out, b" ", u64::from(e.point));
+    write_field(out, b"/", u64::from(e.leg));
+    write_field(out, b"/", u64::from(e.mode));
+    write_field(out, b"/", u64::from(e.timer.0));
 }
 
 // How many entries the body has: none where it is no Request report.
@@ -51,41 +55,39 @@ fn entries_of(body: Body) -> u8 {
 fn is_same(item: Item, rest: &[u8], s: &[u8]) -> bool {
     let mut d = [0xEEu8; 257];
     match write::write_item(item, rest, &mut d) {
-        Ok(n) => n == s.len() && d.starts_with(s) && bytes::from(&d, n).iter().all(|b| *b == 0xEE),
+        Ok(n) => n == s.len()
+            && bytes::leads(s, &d)
+            && bytes::from(&d, n).iter().all(|b| *b == 0xEE),
         Err(_) => false,
     }
 }
 
 // The item read from s, whose digits or entries, of which it shows the entries, begin at place `at`.
 // Writing is the inverse of reading: ` DIFFERS` is always a fault.
-fn show_fields(out: &mut Stdout, item: Item, at: usize, s: &[u8]) -> io::Result<()> {
+fn show_fields(out: &mut Stdout, item: Item, at: usize, s: &[u8]) {
     let rest = bytes::from(s, at);
-    write!(
-        out,
-        "item {} call {} time {} at {at} rest {}",
-        kind_of(item.body),
-        item.call,
-        item.time.0,
-        rest.len(),
-    )?;
+    write_field(out, b"item ", u64::from(kind_of(item.body)));
+    write_field(out, b" call ", u64::from(item.call));
+    write_field(out, b" time ", item.time.0);
+    write_field(out, b" at ", at as u64);
+    write_field(out, b" rest ", rest.len() as u64);
     for i in 0..entries_of(item.body) {
-        show_entry(out, item::nth_entry(rest, i))?;
+        show_entry(out, item::nth_entry(rest, i));
     }
-    let same = if is_same(item, rest, s) {
-        "same"
+    if is_same(item, rest, s) {
+        write_all(out, b" same");
     } else {
-        "DIFFERS"
-    };
-    write!(out, " {same}")
+        write_all(out, b" DIFFERS");
+    }
 }
 
 // Items and profiles are refused alike, by a number.
-fn show_refused(out: &mut Stdout, r: Refusal) -> io::Result<()> {
-    write!(out, "refused {}", r.number())
+fn show_refused(out: &mut Stdout, r: Refusal) {
+    write_field(out, b"refused ", u64::from(r.number()));
 }
 
 // The item that the bytes are, or the refusal.
-pub(crate) fn show_item(out: &mut Stdout, s: &[u8]) -> io::Result<()> {
+pub(crate) fn show_item(out: &mut Stdout, s: &[u8]) {
     match item::read_item(s) {
         Ok((item, at)) => show_fields(out, item, at, s),
         Err(r) => show_refused(out, r),
@@ -93,21 +95,19 @@ pub(crate) fn show_item(out: &mut Stdout, s: &[u8]) -> io::Result<()> {
 }
 
 // The profile read from s. Its lists stand in s. A choice's number is its place among the choices.
-fn show_view(out: &mut Stdout, p: ProfileView, s: &[u8]) -> io::Result<()> {
-    write!(
-        out,
-        "profile handling {} timer {} sense {} lengths {} services {} forwarding {}",
-        p.handling as u8,
-        p.timer.0,
-        p.sense as u8,
-        profile::list_at(s, p.lengths).len(),
-        profile::list_at(s, p.services).len(),
-        p.forwarding as u8,
-    )
+fn show_view(out: &mut Stdout, p: ProfileView, s: &[u8]) {
+    let lengths = profile::list_at(s, p.lengths);
+    let services = profile::list_at(s, p.services);
+    write_field(out, b"profile handling ", p.handling as u64);
+    write_field(out, b" timer ", u64::from(p.timer.0));
+    write_field(out, b" sense ", p.sense as u64);
+    write_field(out, b" lengths ", lengths.len() as u64);
+    write_field(out, b" services ", services.len() as u64);
+    write_field(out, b" forwarding ", p.forwarding as u64);
 }
 
 // The profile that the bytes are, or the refusal.
-pub(crate) fn show_profile(out: &mut Stdout, s: &[u8]) -> io::Result<()> {
+pub(crate) fn show_profile(out: &mut Stdout, s: &[u8]) {
     match profile::read_profile(s) {
         Ok(p) => show_view(out, p, s),
         Err(r) => show_refused(out, r),

@@ -1,5 +1,5 @@
 // Lent byte runs: reading never leaves them, whatever the place. Numbers are big-endian (document 01, Forms).
-ghost use Rattle.std.specs.Prelude.{◌≡◌, ◌+◌, ◌^◌, ◌<◌, ◌≤◌, length, get_or, drop};
+ghost use Rattle.std.specs.Prelude.{◌≡◌, ◌+◌, ◌^◌, ◌<◌, ◌≤◌, min, length, get_or, drop};
 ghost use Rattle.std.proofs.lemmas.List.Edits.{sets};
 ghost use Rattle.forms.specs.Bytes.{from_bytes, part, within, all, contains, leads};
 
@@ -25,13 +25,12 @@ pub fn part_of(s: &[u8], a: usize, n: usize) -> &[u8]
     if n <= t.len() { &t[..n] } else { t }
 }
 
-// The number that the first W bytes are.
+// The number that the first W bytes are, or the first 8 where W is more.
 pub fn number<const W: usize>(s: &[u8]) -> usize
-    requires { W ≤ 8 }
-    ensures { (result ≡ from_bytes W s.now) × (result < 256 ^ W) }
+    ensures { (result ≡ from_bytes (min W 8) s.now) × (result < 256 ^ min W 8) }
 {
     let mut n = 0;
-    for i in 0..W {
+    for i in 0..W.min(8) {
         n = n * 256 + usize::from(at(s, i));
     }
     n

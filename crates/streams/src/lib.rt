@@ -5,7 +5,7 @@
 #[cfg(test)]
 mod tests;
 
-ghost use Rattle.std.specs.Prelude.{◌≡◌, ℕ, ◌+◌, ◌*◌, ◌≤◌, length, get_or, take, IsTrue, IfSome};
+ghost use Rattle.std.specs.Prelude.{◌≡◌, ℕ, ◌++◌, ◌+◌, ◌*◌, ◌≤◌, length, get_or, take, IsTrue, IfSome};
 ghost use Rattle.std.specs.Io.KnownBytes.{Appends, Consumes};
 ghost use Rattle.io.specs.Digits.{IsDigitCount, last_digits};
 
@@ -36,6 +36,16 @@ pub fn write_decimal<W: Write>(to: &mut W, n: u64) -> bool
     let mut text = [0u8; 20];
     let k = io::decimal(n, &mut text);
     write_all(to, &text[..k])
+}
+
+// Writes a field's name and its number in decimal digits. Where the name cannot be written, the number is tried all the same; answers whether all of both was written.
+pub fn write_field<W: Write>(to: &mut W, name: &[u8], n: u64) -> bool
+    ensures { IsTrue result → (k : ℕ) × IsDigitCount 10 1 n k
+        × Appends (W.contents to.old) (W.contents to.new) (name.now ++ last_digits 10 k n) }
+{
+    let named = write_all(to, name);
+    let numbered = write_decimal(to, n);
+    named && numbered
 }
 
 // Reads until the buffer is full, the input ends or a read fails, and answers how many bytes it put at the start of the buffer. For no room it makes no call.
