@@ -1,7 +1,7 @@
 -- Laws of tests and of the loops, for the proofs of the functions and for the theorems.
 use Prim.Native.Nat.{ℕ, zero, suc, ◌+◌, ◌-◌, ◌*◌, ◌≤◌, ◌<◌}
 use mathlib.Core.Path.{◌≡◌, refl, sym, ap, ◌∙◌}
-use mathlib.Core.Bool.{Bool, true, false, not, cond, ◌&&◌, ◌||◌, and-true, and-false, and_assoc}
+use mathlib.Core.Bool.{Bool, true, false, not, cond, ◌&&◌, ◌||◌, and-true, and-false, and_assoc, false≢true}
 use mathlib.Core.List.{List, [], ◌∷◌}
 use native.Mathlib.Numerals.{add-one}
 use native.Mathlib.Nat.{sub-eq-zero_of_le}
@@ -265,6 +265,11 @@ entries_keep_kind dp r es = armed_keeps dp (λ s. s.bcsm) (λ s a k. refl) es r
 
 -- ---- loops over entries: those from i on begin with entry i
 
+-- the place of the role that is named; 0 if none is
+abbrev pub place_named : Option Role → ℕ
+place_named None = 0
+place_named (Some p) = place_of p
+
 module _ (dp : PointSet) (n i : ℕ) (t : List ℕ) where
   abbrev from : List Entry
   from = entries_of (n - i) (drop (i * 5) t)
@@ -307,6 +312,22 @@ module _ (dp : PointSet) (n i : ℕ) (t : List ℕ) where
       pub arm_some : (r : Record) → armed_with dp (armed_by r (Some p) entry) next ≡ armed_with dp r from
       unfolding armed_with
       arm_some r = rw entries_next (ap (λ x. armed_with dp (armed_by r x entry) next) (sym k))
+
+    -- the same steps, whatever role the entry names
+    pub good_step_named : (seen : List Bool) → is_good (named dp entry) seen entry ≡ true → are_good dp (set seen (place_named (named dp entry)) true) next ≡ are_good dp seen from
+    good_step_named seen = go (named dp entry) refl
+      where
+        go : (x : Option Role) → named dp entry ≡ x → is_good x seen entry ≡ true → are_good dp (set seen (place_named x) true) next ≡ are_good dp seen from
+        go None k g = absurd (false≢true g)
+        go (Some p) k g = good_step p k seen g
+
+    pub good_stop_named : (seen : List Bool) → is_good (named dp entry) seen entry ≡ false → are_good dp seen from ≡ false
+    unfolding are_good
+    good_stop_named seen g = rw (entries_next, g)
+
+    pub possible_step_named : (r : Record) (ok : Bool) → (ok && is_possible r (named dp entry) entry.mode && are_possible dp r next) ≡ (ok && are_possible dp r from)
+    unfolding are_possible
+    possible_step_named r ok = rw (entries_next, and_assoc)
 
   module _ (h : n ≤ i) where
     entries_end : from ≡ []

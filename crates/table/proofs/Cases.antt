@@ -218,13 +218,9 @@ answers_in = map (λ (e : Input × Answer). e.1)
 abbrev owners_in : List Slot → List (Option ℕ)
 owners_in t = map (λ (e : Slot). e.owner) (take 4 t)
 
--- an item on a sound table as the code takes it, by the definitions of its parts: refused early, or served
-abbrev code_as : Early → List Slot → Input → Answer × List Slot
-code_as (Err n) t x = (Err n, t)
-code_as (std.Ok o) t x = served_of t (item_in x) (rest_in x) o
-
+-- an item as the code takes it, by the definitions of its parts: what `feed_read` promises
 abbrev code_step : List Slot → Input → Answer × List Slot
-code_step t x = code_as (early_of false (item_in x) (rest_in x) x.profile) t x
+code_step t x = fed_of t (item_in x) (rest_in x) x.profile
 
 -- the answers on the table, of each call by itself, and of the code's parts
 pub by_turns : answers_in (log feed_step (fresh our_slots) items) ∷ answers_in (each_alone by_itself (of_call our_call) our_call.call None [] items) ∷ answers_in (log code_step (fresh our_slots) items) ∷ []

@@ -1,10 +1,10 @@
 -- Laws of text, for the proofs of `line` and the functions below it.
-use Prim.Native.Nat.{ℕ, zero, suc, ◌+◌, ◌-◌, ◌/◌, ◌%◌, ◌^◌, ◌≤◌, ◌<◌}
+use Prim.Native.Nat.{ℕ, zero, suc, ◌+◌, ◌-◌, ◌*◌, ◌/◌, ◌%◌, ◌^◌, ◌≤◌, ◌<◌}
 use mathlib.Core.Path.{◌≡◌, refl, sym, ap, ◌∙◌}
 use mathlib.Core.Bool.{true, false}
 use mathlib.Core.List.{List, [], ◌++◌}
 use mathlib.Core.Logic.{⊎_elim}
-use native.Mathlib.Nat.{add-zero}
+use native.Mathlib.Nat.{pow-suc, add-zero}
 use native.Mathlib.Omega.{arith}
 use borrow.Author.Tests.{lt-ltb, le-ltb, le-leb, lt-leb}
 use lib.Dec.{leb, ltb}
@@ -43,6 +43,30 @@ last_digit n h = enough n (suc n) n (omega arith) (omega arith) ∙ one_less n n
 -- of a number that fits into 64 bits these are the digits that std writes
 pub std_decimal : (n : ℕ) → n < 2 ^ 64 → decimal n ≡ std.decimal n
 std_decimal n h = decimal_by_steps (λ n ds. decimal n ≡ ds) one_digit (λ n ds m e. last_digit n m ∙ ap (λ d. d ++ digit (n % 10)) e) n h
+
+few : (j k n : ℕ) → n < 10 ^ suc j → length (digits k (ltb n 10) n) ≤ suc j
+unfolding digits
+few j zero n h = omega arith
+few zero (suc k) n h = rw (lt-ltb n 10 h) (omega arith)
+few (suc j) (suc k) n h =
+    let l : n < 10 ^ suc j * 10 = rw pow-suc at h in
+    let d = digits k (ltb (n / 10) 10) (n / 10) in
+    ⊎_elim (λ s. rw (lt-ltb n 10 s) (omega arith)) (λ m. rw (le-ltb n 10 m, length-append d (digit (n % 10))) (omega (arith, few j k (n / 10) (omega arith)))) (below_or_past n 10)
+
+-- a number below 10 ^ (j + 1) has at most j + 1 digits
+pub few_digits : (j n : ℕ) → n < 10 ^ suc j → length (decimal n) ≤ suc j
+unfolding decimal
+few_digits j n h = few j n n h
+
+-- the number of digits, and that of all but the last
+pub one_size : (n : ℕ) → n < 10 → length (decimal n) ≡ 1
+one_size n h = rw (one_digit n h)
+
+pub last_size : (n : ℕ) → 10 ≤ n → length (decimal n) ≡ length (decimal (n / 10)) + 1
+last_size n h = rw (last_digit n h, length-append (decimal (n / 10)) (digit (n % 10)))
+
+pub some_digit : (n : ℕ) → 1 ≤ length (decimal n)
+some_digit n = ⊎_elim (λ s. omega (arith, one_size n s)) (λ m. omega (arith, last_size n m)) (below_or_past n 10)
 
 -- ---- runs of stores
 

@@ -25,7 +25,7 @@ use Rattle.table.specs.declared.lookup.Spot.TheVariants.{Nowhere, Free, Own}
 use Rattle.table.specs.Table.{Effect, find, is_free, owns, unless, store, seat, setup_at, other_at, serve, damage, table_step}
 use Rattle.table.specs.Slot.{our_slots, owned_by, blank_slot}
 use Rattle.table.specs.Feed.{item_in, rest_in, effect_as, our_call, is_sound_table, feed_of, feed_item_of}
-use Rattle.table.specs.Lookup.{spot_of}
+use Rattle.table.specs.Lookup.{spot_of, locate_of}
 use Rattle.table.specs.Serve.{stored_at, served_at, served_of, fed_by, fed_of}
 use Rattle.table.proofs.Ours.{item_fits, open_remains}
 
@@ -122,8 +122,7 @@ fed_item t i rest profile h k =
     let back = read_back i rest h k in
     rw h (subst (λ r. fed_of t i r profile ≡ feed_of t (item_bytes i rest) profile) back.1 (fed_read t (item_bytes i rest) profile i (rest_at i.body) back.0))
 
--- ---- the step of the record that is served, by where the call stands
--- Cited by no proof any more; docs/PORT.md names it.
+-- ---- the step of the record that is served, by where the call stands: what the code answers and stores is this step's
 
 -- a Setup, with what its profile says: "64 open" is 6, "call already open" 5
 abbrev pub set_up_at : Spot → Item → List ℕ → Opening → Stepped
@@ -145,3 +144,24 @@ acted_of (Ok None) s r i rest = responded_at s r i rest
 -- of a slot that stands in the table: what a place past the end would give does not matter
 pub acted_at : (e : Early) (s : Spot) (t : List Slot) (k : ℕ) (x : Item) (rest : List ℕ) (d : Slot) {a : Stepped} → k < length t → a ≡ acted_of e s (get_or t k d).body x rest → a ≡ acted_of e s (get_or t k blank_slot).body x rest
 acted_at e s t k x rest d l h = h ∙ ap (λ (r : Slot). acted_of e s r.body x rest) (get_or_default t k d blank_slot l)
+
+-- the slot that is looked at; where there is none, the first, which then stays as it is
+abbrev pub slot_of : Spot → ℕ
+slot_of Nowhere = 0
+slot_of (Free i) = i
+slot_of (Own i) = i
+
+abbrev pub acted_in : Early → Spot → List Slot → Item → List ℕ → Answer × List Slot
+acted_in e s t i rest = stored_at t (slot_of s) i.call (acted_of e s (get_or t (slot_of s) blank_slot).body i rest)
+
+pub served_acted : (o : Option Opening) (s : Spot) (t : List Slot) (i : Item) (rest : List ℕ) → served_at o s t i rest ≡ acted_in (Ok o) s t i rest
+served_acted (Some o) Nowhere t i rest = refl
+served_acted (Some o) (Free j) t i rest = refl
+served_acted (Some o) (Own j) t i rest = refl
+served_acted None Nowhere t i rest = refl
+served_acted None (Free j) t i rest = refl
+served_acted None (Own j) t i rest = refl
+
+pub fed_acted : (e : Early) (t : List Slot) (i : Item) (rest : List ℕ) → is_sound_table t ≡ true → fed_by e t i rest ≡ acted_in e (locate_of i.call t) t i rest
+fed_acted (Err n) t i rest w = refl
+fed_acted (Ok o) t i rest w = rw w (served_acted o (locate_of i.call t) t i rest)
