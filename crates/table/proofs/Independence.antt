@@ -8,7 +8,6 @@ use Rattle.std.specs.Prelude.{None}
 use mathlib.Core.Logic.{◌≢◌}
 use lib.ListN.{replicate}
 use borrow.Author.Tests.{eqb-true, eq-eqb}
-use Rattle.forms.specs.declared.refusal.Refusal.TheVariants.{DamagedTable, TableFull}
 use Rattle.table.specs.Runs.{only}
 use Rattle.table.specs.Table.{OneCall, Slots, of_call, owns, first, look, fresh, is_sound_slot, is_sound, table_step}
 use Rattle.table.specs.Independence.{Independence}
@@ -19,7 +18,7 @@ use Rattle.table.proofs.Valid.{Valid, valid_sound, sound_valid}
 use Rattle.table.proofs.Step.{table_step_lem, valid_after, meets_own, leaves_others, blank_sound}
 
 module _ (c : OneCall) (m : Slots c.Rec) (below : Promises c m) where
-  open c use {Item, refused, call, alone}
+  open c use {Item, refused, call, alone, DamagedTable, TableFull}
   open m use {Slot, blank}
 
   -- ---- a fresh table is sound and holds nothing

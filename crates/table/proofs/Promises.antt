@@ -4,13 +4,12 @@ use mathlib.Core.Path.{◌≡◌}
 use mathlib.Core.Bool.{true, false, cond}
 use Rattle.std.specs.Prelude.{Option, None, Some}
 use mathlib.Core.Logic.{◌≢◌}
-use Rattle.forms.specs.declared.refusal.Refusal.TheVariants.{DamagedTable, CallNotOpen, CallOpen, TableFull}
 use Rattle.table.specs.Table.{Effect, refuses, goes, ends, OneCall, Slots, unless}
 
 -- ---- a call by itself, put together from the same parts as the table
 
 module _ (c : OneCall) where
-  open c use {Item, Rec, Answer, refused, early, is_setup, begin, respond}
+  open c use {Item, Rec, Answer, refused, early, is_setup, begin, respond, CallNotOpen, CallOpen}
 
   abbrev pub Kept : Type 0
   Kept = Answer × Option Rec
@@ -53,5 +52,5 @@ pub record Promises (c : OneCall) (m : Slots c.Rec) : Type 0 where
   pub respond_range : (r : c.Rec) (x : c.Item) → c.early x ≡ None → c.is_setup x ≡ false → m.in_range r ≡ true → OnNext (λ next. m.in_range next ≡ true) (c.respond r x)
   -- the call by itself is made of these parts; it never answers 3, and 6 is another answer
   pub alone_is : (v : Option c.Rec) (x : c.Item) → c.alone v x ≡ alone_as c v x
-  pub alone_never_3 : (v : Option c.Rec) (x : c.Item) → (c.alone v x).0 ≢ c.refused DamagedTable
-  pub room_is_not_3 : c.refused TableFull ≢ c.refused DamagedTable
+  pub alone_never_3 : (v : Option c.Rec) (x : c.Item) → (c.alone v x).0 ≢ c.refused c.DamagedTable
+  pub room_is_not_3 : c.refused c.TableFull ≢ c.refused c.DamagedTable

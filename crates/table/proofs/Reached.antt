@@ -6,7 +6,6 @@ use mathlib.Core.Bool.{Bool, true, false}
 use mathlib.Core.List.{List, [], ◌∷◌}
 use Rattle.std.specs.Prelude.{Option, None, Some}
 use lib.ListN.{length, get_or, set, replicate}
-use Rattle.forms.specs.declared.refusal.Refusal.{Refusal}
 use Rattle.call.proofs.Laws.{by_cond}
 use Rattle.table.specs.Runs.{cons_if, only, All, final}
 use Rattle.table.specs.Table.{Effect, refuses, goes, ends, OneCall, Slots, find, is_free, owns, first, look, fresh, unless, Done, store, seat, setup_at, other_at, serve, damage, table_step}
@@ -34,7 +33,7 @@ module _ {A : Type 0} (Q : A → Type 0) where
 -- ---- any layer of one call
 
 module _ (c : OneCall) (m : Slots c.Rec) (below : Promises c m) (P : c.Rec → Type 0) where
-  open c use {Item, Rec, Answer, refused, call, early, is_setup, begin, respond}
+  open c use {Item, Rec, Answer, refused, call, early, is_setup, begin, respond, Reason}
   open m use {Slot, owner, body, own, blank}
 
   -- a slot: the record of its owner, if it has one
@@ -51,7 +50,7 @@ module _ (c : OneCall) (m : Slots c.Rec) (below : Promises c m) (P : c.Rec → T
     abbrev Left : Done c m → Type 0
     Left d = All Has d.1
 
-    unless_left : (o : Option Refusal) (t : List Slot) (d : Done c m) → All Has t → (o ≡ None → Left d) → Left (unless refused o t d)
+    unless_left : (o : Option Reason) (t : List Slot) (d : Done c m) → All Has t → (o ≡ None → Left d) → Left (unless refused o t d)
     unfolding unless
     unless_left (Some n) t d a f = a
     unless_left None t d a f = f refl

@@ -5,8 +5,6 @@ use mathlib.Core.Bool.{Bool, true, false, cond}
 use mathlib.Core.List.{List}
 use Rattle.std.specs.Prelude.{Option, None, Some}
 use lib.ListN.{get_or, set}
-use Rattle.forms.specs.declared.refusal.Refusal.{Refusal}
-use Rattle.forms.specs.declared.refusal.Refusal.TheVariants.{CallNotOpen, CallOpen, TableFull}
 use Rattle.table.specs.Table.{Effect, refuses, goes, ends, OneCall, Slots, unless, of_call, find, is_free, owns, look, is_sound_slot, Done, store, seat, setup_at, other_at, serve, damage, table_step}
 use Rattle.table.proofs.Lists.{Found, found}
 use Rattle.table.proofs.Apart.{Met, served, crowded}
@@ -14,7 +12,7 @@ use Rattle.table.proofs.Promises.{Kept, keep, setup_alone, other_alone, serve_al
 use Rattle.table.proofs.Valid.{Valid, valid_sound, Holds, holds_some, holds_none, Spot, spot_own, spot_free, read, look_read, read_range, look_other, look_now, valid_set}
 
 module _ (c : OneCall) (m : Slots c.Rec) where
-  open c use {Item, Rec, Answer, refused, call}
+  open c use {Item, Rec, Answer, refused, call, TableFull}
   open m use {Slot, blank}
 
   -- what can happen at x on t, where the call by itself gives `o`: a refusal, no room, or one slot written
@@ -40,7 +38,7 @@ module _ (c : OneCall) (m : Slots c.Rec) where
     leaves_others (write a p h e) k f = look_other m p h k f
 
 module _ (c : OneCall) (m : Slots c.Rec) (below : Promises c m) where
-  open c use {Item, Rec, Answer, refused, call, early, is_setup, begin, respond, alone}
+  open c use {Item, Rec, Answer, refused, call, early, is_setup, begin, respond, alone, Reason, CallNotOpen, CallOpen}
   open m use {Slot, owner, body, own, blank, in_range}
 
   pub blank_sound : is_sound_slot m blank ≡ true
@@ -95,7 +93,7 @@ module _ (c : OneCall) (m : Slots c.Rec) (below : Promises c m) where
     unfolding alone_as unless
     serves o f = go (early x) refl
       where
-        go : (e : Option Refusal) → early x ≡ e → Happens c m t x (unless refused e (look m (call x) t) (serve_alone c x (look m (call x) t))) (unless refused e t (serve c m t x o))
+        go : (e : Option Reason) → early x ≡ e → Happens c m t x (unless refused e (look m (call x) t) (serve_alone c x (look m (call x) t))) (unless refused e t (serve c m t x o))
         go (Some n) e = refuse (refused n) refl
         go None e = rw (look_read m v (call x) o f) (served_at_lem e o f)
 

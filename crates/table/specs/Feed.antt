@@ -1,7 +1,7 @@
 -- What `feed` answers and leaves: the table of `Table.antt`, over the layer `call` and the bytes that are handed in.
 use Rattle.std.specs.Prelude.{ℕ, Bool, cond, List, [], ◌∷◌, ◌≡◌, Option, None, Some, Err}
 use Rattle.forms.specs.Item.{item_bytes, item_in_range, item_of, rest_of}
-use Rattle.forms.specs.declared.refusal.Refusal.TheVariants.{MalformedItem}
+use Rattle.forms.specs.declared.refusal.Refusal.TheVariants.{MalformedItem, DamagedTable, CallNotOpen, CallOpen, TableFull}
 use Rattle.call.specs.Answers.{Row, remains}
 use Rattle.call.specs.Kind.{is_setup}
 use Rattle.call.specs.Refusals.{early_rows_in}
@@ -38,6 +38,11 @@ our_call =
       Item = Input;
       Rec = Record;
       Answer = Answer;
+      Reason = Refusal;
+      DamagedTable = DamagedTable;
+      CallNotOpen = CallNotOpen;
+      CallOpen = CallOpen;
+      TableFull = TableFull;
       refused = λ n. Err n;
       call = λ x. (item_in x).call;
       early = early;

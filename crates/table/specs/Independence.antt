@@ -1,6 +1,5 @@
 -- Demand 3, calls do not touch each other: what it says of every list of items, over any layer of one call. (`Demands.antt` says it of what `feed` does.)
 use Rattle.std.specs.Prelude.{ℕ, true, List, [], ◌≡◌, ◌≢◌, None}
-use Rattle.forms.specs.declared.refusal.Refusal.TheVariants.{DamagedTable, TableFull}
 use Rattle.table.specs.Runs.{only, All, log, final, each_alone}
 use Rattle.table.specs.Table.{OneCall, Slots, of_call, look, fresh, is_sound, table_step}
 
@@ -19,7 +18,7 @@ module _ (c : OneCall) where
   lines_of k = only (λ e. of_call c k e.0)
 
 module _ (c : OneCall) (m : Slots c.Rec) where
-  open c use {Item, refused, call, alone}
+  open c use {Item, refused, call, alone, DamagedTable, TableFull}
   open m use {Slot}
 
   -- "fed one after another to a fresh table; each item meets the table as the one before left it": the lines, and the table after the list

@@ -1,7 +1,5 @@
 -- Document 01, The call table and Numbered refusals 3 to 6: 64 slots that serve many calls, over any layer of one call. (`Feed.antt` puts ours in.)
 use Rattle.std.specs.Prelude.{ℕ, suc, Bool, true, false, cond, ◌&&◌, List, [], ◌∷◌, eqb, length, get_or, set, replicate, Option, None, Some, is_none}
-use Rattle.forms.specs.declared.refusal.Refusal.{Refusal}
-use Rattle.forms.specs.declared.refusal.Refusal.TheVariants.{DamagedTable, CallNotOpen, CallOpen, TableFull}
 use Rattle.table.specs.Runs.{only}
 
 -- ---- what the layer of one call gives
@@ -12,14 +10,20 @@ pub data Effect (Answer Rec : Type 0) : Type 0 where
   goes : Answer → Rec → Effect Answer Rec
   ends : Answer → Effect Answer Rec
 
--- `early` is the refusal that comes before the table is looked at, if one applies; `begin` opens a call; `alone` is a call by itself
+-- `Reason` is what refusals are told apart by; `early` is the refusal that comes before the table is looked at, if one applies; `begin` opens a call; `alone` is a call by itself
 pub record OneCall : Type 1 where
   pub Item : Type 0
   pub Rec : Type 0
   pub Answer : Type 0
-  pub refused : Refusal → Answer
+  pub Reason : Type 0
+  -- refusals 3, 4, 5 and 6, which are the table's own
+  pub DamagedTable : Reason
+  pub CallNotOpen : Reason
+  pub CallOpen : Reason
+  pub TableFull : Reason
+  pub refused : Reason → Answer
   pub call : Item → ℕ
-  pub early : Item → Option Refusal
+  pub early : Item → Option Reason
   pub is_setup : Item → Bool
   pub begin : Item → Answer × Rec
   pub respond : Rec → Item → Effect Answer Rec
@@ -103,12 +107,12 @@ module _ {Rec : Type 0} (m : Slots Rec) where
 -- ---- an item on the table: the answer, and the whole table afterwards
 
 -- "the first that applies is given", "Each returns its number alone and changes nothing."
-unfoldable pub unless : {A S : Type 0} → (Refusal → A) → Option Refusal → S → A × S → A × S
+unfoldable pub unless : {R A S : Type 0} → (R → A) → Option R → S → A × S → A × S
 unless refused (Some n) s d = (refused n, s)
 unless refused None s d = d
 
 module _ (c : OneCall) (m : Slots c.Rec) where
-  open c use {Item, Rec, Answer, refused, call, early, is_setup, begin, respond}
+  open c use {Item, Rec, Answer, refused, call, early, is_setup, begin, respond, Reason, DamagedTable, CallNotOpen, CallOpen, TableFull}
   open m use {Slot, owner, body, own, blank}
 
   abbrev pub Done : Type 0
@@ -140,7 +144,7 @@ module _ (c : OneCall) (m : Slots c.Rec) where
   serve t x i = cond (is_setup x) (setup_at t x i) (other_at t x i)
 
   -- refusal 3, of a table that is not sound
-  unfoldable pub damage : List Slot → Option Refusal
+  unfoldable pub damage : List Slot → Option Reason
   damage t = cond (is_sound m t) None (Some DamagedTable)
 
   unfoldable pub table_step : List Slot → Item → Done
