@@ -11,10 +11,18 @@ use streams::write_all;
 // Stores the bytes that t stands for at the start of d, and answers them: pairs of hexadecimal digits, with blanks between pairs. None where it is of another form, and where d is too short.
 fn unhex<'d>(t: &[u8], d: &'d mut [u8]) -> Option<&'d [u8]> {
     let mut n = 0;
-    for digits in t.split(|c| *c == b' ') {
-        let room = d.get_mut(n..)?.get_mut(..digits.len() / 2)?;
-        hex::decode_to_slice(digits, room).ok()?;
-        n += digits.len() / 2;
+    let mut rest = t;
+    // Each turn takes a digit at least, so one turn more than there are bytes is enough. (A split at each blank took three times the instructions where many blanks stand together.)
+    for _ in 0..=t.len() {
+        let Some(blanks) = rest.iter().position(|c| *c != b' ') else {
+            break;
+        };
+        let word = &rest[blanks..];
+        let len = word.iter().position(|c| *c == b' ').unwrap_or(word.len());
+        let room = d.get_mut(n..)?.get_mut(..len / 2)?;
+        hex::decode_to_slice(&word[..len], room).ok()?;
+        n += len / 2;
+        rest = &word[len..];
     }
     d.get(..n)
 }
