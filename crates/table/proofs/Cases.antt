@@ -29,7 +29,7 @@ use Rattle.call.specs.Setup.{early_of, set_up_of, open_of}
 use Rattle.call.specs.Alone.{Input, alone_step}
 use Rattle.call.proofs.Cases as call
 use Rattle.table.specs.declared.lookup.Spot.TheVariants as spot
-use Rattle.table.specs.Types.{Item, Refusal, Record, Answer, Early, Slot, Spot}
+use Rattle.table.specs.Types.{Item, Refusal, Record, Answer, Slot, Spot}
 use Rattle.table.specs.Runs.{cons_if, only, log, final, each_alone}
 use Rattle.table.specs.Table.{of_call, next, find, all, first, look, fresh, once, is_sound, unless, store, seat, setup_at, other_at, serve, damage, table_step}
 use Rattle.table.specs.Slot.{owned_by, blank_slot, our_slots}
@@ -37,7 +37,7 @@ use Rattle.table.specs.Feed.{item_in, rest_in, our_call, feed_step, feed_item_of
 use Rattle.table.specs.Independence.{items_of, lines_of}
 use Rattle.table.specs.Check.{calls, among, is_once}
 use Rattle.table.specs.Lookup.{locate_of}
-use Rattle.table.specs.Serve.{served_of, fed_of}
+use Rattle.table.specs.Serve.{fed_of}
 use Rattle.table.specs.Demands.{by_itself}
 use Rattle.table.proofs.LineCases.{triggered, triggered_at12, ended}
 
