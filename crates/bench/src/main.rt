@@ -94,7 +94,7 @@ fn write_checked(out: &mut Stdout, c: Checked) {
     write_field(out, b" ", c.pairs as u64);
 }
 
-// How many there are to be is written first, before any of them.
+// The table is fresh, and so sound, and stays so. How many there are to be is written first, before any of them.
 // A write that fails goes unsaid, and what follows it is tried all the same: the output then lacks a part.
 fn report(out: &mut Stdout, buf: &[u8]) {
     let input = Input::new(buf);
