@@ -43,7 +43,8 @@ pub(crate) fn route(r: Record, t: ClockReading) -> Stepped
     answers::go_on(next, answers::silent_reports(), Some(deadline))
 }
 
-// Continue, from a hold.
+// Continue, from a hold. (Never inlined: so a record lies in memory where it is handed over, and LLVM takes the vector's maximum that `armings::strongest` speaks of; else it compares the armings one by one.)
+#[inline(never)]
 #[tactic(auto, unfolding(crate::specs::Operations::continued))]
 pub(crate) fn continue_on(r: Record, t: ClockReading) -> Stepped
     ensures { result ≡ continued (set_of r.bcsm) r t.time }
