@@ -3,7 +3,7 @@ use Rattle.std.specs.Prelude.{ℕ, Bool, true, false, cond, List, [], ◌∷◌,
 use Prim.Native.String.{String}
 use Rattle.forms.specs.Fields.{leg_number}
 use Rattle.forms.specs.Refusal.{number_of}
-use Rattle.call.specs.Types.{Tenths, Point, PointSet, Hold, Record, Refusal, Relationship, Report, Reports, Outcome, Answer, Check, Stepped}
+use Rattle.call.specs.Types.{Tenths, Point, PointSet, Hold, Record, Refusal, Relationship, Report, Reports, Outcome, AnswerBy, Answer, Check, SteppedBy, Stepped}
 use Rattle.forms.specs.declared.item.Leg.TheVariants.{One, Two}
 use Rattle.call.specs.declared.record.Hold.TheVariants as hold
 use Rattle.call.specs.declared.relationship.Relationship.TheVariants as relationship
@@ -72,9 +72,13 @@ told_of o = record {
   over = o.over;
 }
 
+-- "or the refusal's number", which told_by says
+abbrev pub values_by : {R : Type 0} → (R → ℕ) → AnswerBy R → Values
+values_by told_by (Err n) = refusal (told_by n)
+values_by told_by (Ok o) = accepted (told_of o)
+
 abbrev pub values_of : Answer → Values
-values_of (Err n) = refusal (number_of n)
-values_of (Ok o) = accepted (told_of o)
+values_of a = values_by number_of a
 
 -- ---- answers that go on, and the last one of a call
 
@@ -118,7 +122,7 @@ remains (Err n) before over next = before
 remains (Ok o) before over next = cond o.over over next
 
 -- "Each returns its number alone and changes nothing."
-abbrev pub refused : Record → Refusal → Stepped
+abbrev pub refused : {R : Type 0} → Record → R → SteppedBy R
 refused r n = record { answer = Err n; next = r }
 
 abbrev pub guarded : Check → Record → Stepped → Stepped

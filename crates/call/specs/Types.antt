@@ -14,7 +14,7 @@ pub use Rattle.forms.specs.declared.units.Tenths.{Tenths}
 pub use Rattle.call.specs.declared.answers.Outcome.{Outcome}
 pub use Rattle.call.specs.declared.answers.Report.{Report}
 pub use Rattle.call.specs.declared.answers.Reports.{Reports}
-pub use Rattle.call.specs.declared.answers.Stepped.{Stepped}
+pub use Rattle.call.specs.declared.answers.Stepped.{Stepped as SteppedBy}
 pub use Rattle.call.specs.declared.armings.Arming.{Arming}
 pub use Rattle.call.specs.declared.armings.Mode.{Mode}
 pub use Rattle.call.specs.declared.events.Event.{Event}
@@ -35,9 +35,16 @@ pub use Rattle.call.specs.declared.setup.Opening.{Opening}
 pub use Rattle.call.specs.declared.stages.Span.{Span}
 pub use Rattle.call.specs.declared.stages.Stage.{Stage}
 
--- an answer: what is said of an accepted item, or the refusal
+-- an answer: what is said of an accepted item, or the refusal. R is the type of the refusals: forms' `Refusal` in all that the rules answer.
+abbrev pub AnswerBy : Type 0 → Type 0
+AnswerBy R = Result Outcome R
+
 abbrev pub Answer : Type 0
-Answer = Result Outcome Refusal
+Answer = AnswerBy Refusal
+
+-- an answer, and the record that remains
+abbrev pub Stepped : Type 0
+Stepped = SteppedBy Refusal
 
 -- what a list of refusals comes to: nothing, or the first that applies
 abbrev pub Check : Type 0

@@ -36,13 +36,13 @@ pub struct Outcome {
     pub over: bool,
 }
 
-// An item is accepted or refused.
-pub type Answer = Result<Outcome, Refusal>;
+// An item is accepted or refused. Refusals are forms' unless another type is named.
+pub type Answer<R = Refusal> = Result<Outcome, R>;
 
 // The answer, and the record that remains: blank when the call is over, the old one when the item is refused. (No Option of a record: a free slot holds the blank one, document 01.)
 #[derive(Clone, Copy)]
-pub struct Stepped {
-    pub answer: Answer,
+pub struct Stepped<R = Refusal> {
+    pub answer: Answer<R>,
     pub next: Record,
 }
 
@@ -109,7 +109,8 @@ pub(crate) fn end(r: Record, event: Option<Report>, t: Tenths) -> Stepped
     }
 }
 
-pub fn refuse(r: Record, refusal: Refusal) -> Stepped
+// The refusal is of any type: forms', or a number by itself.
+pub fn refuse<R>(r: Record, refusal: R) -> Stepped<R>
     ensures { result ≡ refused r refusal }
 {
     Stepped {

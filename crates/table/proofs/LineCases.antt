@@ -14,7 +14,7 @@ use Rattle.call.specs.declared.relationship.Relationship.TheVariants as L
 use Rattle.call.specs.declared.answers.Report.{Report}
 use Rattle.call.specs.declared.answers.Report.TheVariants.{Interrupting, Notification}
 use Rattle.call.specs.declared.points.Point.{Point}
-use Rattle.call.specs.Answers.{values_of}
+use Rattle.call.specs.Answers.{values_of, values_by}
 use Rattle.table.specs.Types.{Answer}
 use Rattle.table.specs.Line.{text, digits, decimal, line_of, header, printed}
 
@@ -75,6 +75,11 @@ pub one_charge : lines_from 9 (ok L.Monitor None (Some (Notification (50 ╱ One
     ≡ text "9 ok monitor - n50/1 c1=36000\n10 ok control 10 r10/1 c2=600\n11 refused 14\n"
 unfolding line_of decimal digits
 one_charge = refl
+
+-- a refusal told by any number, also one that the papers do not give
+pub any_number : map (λ n. line_of 1 (values_by (λ m. m) (Err n))) (0 ∷ 16 ∷ 255 ∷ []) ≡ text "1 refused 0\n" ∷ text "1 refused 16\n" ∷ text "1 refused 255\n" ∷ []
+unfolding line_of decimal digits
+any_number = refl
 
 -- a text stored from place 1 on, where there is room for the longest line, and where one byte is missing
 pub storing : map (λ n. printed (text "ab") (replicate n 46) 1) (129 ∷ 128 ∷ []) ≡ (Some 3, 46 ∷ 97 ∷ 98 ∷ replicate 126 46) ∷ (None, replicate 128 46) ∷ []

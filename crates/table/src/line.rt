@@ -1,12 +1,13 @@
 // The text of a listing line (document 01, The listing program).
 ghost use Rattle.std.specs.Prelude.{◌≡◌, ◌++◌, ◌+◌, ◌≤◌, leb, length, unwrap_or};
-ghost use Rattle.call.specs.Answers.{relationship_word, pair_of, suspended_at, event_of, tenths_in, told_of, values_of};
+ghost use Rattle.call.specs.Answers.{relationship_word, pair_of, suspended_at, event_of, tenths_in, told_of, values_by};
 ghost use Rattle.table.specs.Line.{HasRoom, Puts, decimal, field, text, word_text, suspended_text, pair_text, event_text, reports_text, over_text, told_text, values_text, line_of, header as header_text, longest, printed};
 
 use call::answers::*;
 use call::points::Point;
 use call::relationship::Relationship;
 use forms::bytes;
+use forms::refusal::Reason;
 use forms::units::Tenths;
 use itoa::{Buffer, Integer};
 
@@ -131,19 +132,19 @@ impl Text<'_> {
         self.put_over(o.over);
     }
 
-    fn put_answer(&mut self, answer: Answer)
+    fn put_answer<R: Reason>(&mut self, answer: Answer<R>)
         requires { HasRoom 99 self.old }
-        ensures { Puts 99 (values_text (values_of answer)) self.old self.new }
+        ensures { Puts 99 (values_text (values_by R.told_by answer)) self.old self.new }
     {
         match answer {
             Ok(o) => self.put_outcome(o),
-            Err(refusal) => self.put_field(b" refused ", u64::from(refusal.number())),
+            Err(refusal) => self.put_field(b" refused ", u64::from(refusal.told())),
         }
     }
 
-    fn put_line(&mut self, number: u64, answer: Answer)
+    fn put_line<R: Reason>(&mut self, number: u64, answer: Answer<R>)
         requires { HasRoom longest self.old }
-        ensures { Puts longest (line_of number (values_of answer)) self.old self.new }
+        ensures { Puts longest (line_of number (values_by R.told_by answer)) self.old self.new }
     {
         self.put_number(number);
         self.put_answer(answer);
@@ -170,8 +171,8 @@ pub fn has_room(out: &[u8], at: usize) -> bool
 }
 
 // Stores the line and answers the next place, behind it. Where there is no room for the longest line nothing is stored.
-pub fn line(out: &mut [u8], at: usize, number: u64, answer: Answer) -> Option<usize>
-    ensures out_after { (result, out.new) ≡ printed (line_of number (values_of answer)) out.old at }
+pub fn line<R: Reason>(out: &mut [u8], at: usize, number: u64, answer: Answer<R>) -> Option<usize>
+    ensures out_after { (result, out.new) ≡ printed (line_of number (values_by R.told_by answer)) out.old at }
     ensures at_bound { unwrap_or result at ≤ at + longest }
 {
     if !has_room(out, at) {

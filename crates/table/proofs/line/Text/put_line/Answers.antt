@@ -5,4 +5,4 @@ use Rattle.table.proofs.line.Text.put_line.Goals as goal
 
 pub returns : goal.returns
 unfolding line_of
-returns c = let p = both (digits_put (omega arith) c.put_number.ensures) (both c.put_answer.ensures c.put.ensures) in spelled 128 refl (omega arith) p
+returns g c = let p = both (digits_put (omega arith) c.put_number.ensures) (both c.put_answer.ensures c.put.ensures) in spelled 128 refl (omega arith) p
